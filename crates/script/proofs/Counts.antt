@@ -77,23 +77,24 @@ stated s from a b c l second name t h k n w =
     let la = lexemes-from s a in
     let end : start-of s (runs (from-next la)) ≡ c = ap (λ ls. start-of s (runs ls)) (ap from-next (k .same) ∙ sym (w .left)) ∙ runs-start s (lexemes-from s c) ∙ sym (w .place) in
     let named : entered s (statement-kind (l .kind)) (head (until la)) ≡ name =
-          sym (named-until s (statement-kind (l .kind)) la) ∙ ap (entered s (statement-kind (l .kind))) (ap head (k .same) ∙ ahead-head s b second (k .ahead)) ∙ sym n in
+    sym (named-until s (statement-kind (l .kind)) la) ∙ ap (entered s (statement-kind (l .kind))) (ap head (k .same) ∙ ahead-head s b second (k .ahead)) ∙ sym n in
     let counted : t ≡ tally (one-more none-yet l) (until la) = w .count ∙ ap (λ ls. tally (one-more none-yet l) (until ls)) (sym (k .same)) in
     let told = counted ∙ tally-of l (until la) in
     let is : summary s (record { first = l; rest = until la }) (start-of s (runs (from-next la))) ≡ record { at = l .at; end = c; kind = statement-kind (l .kind); name = name; tokens = t .tokens; wrong = t .wrong } =
-          ap₂ (λ e x. record { at = l .at; end = e; kind = statement-kind (l .kind); name = x; tokens = length (l ∷ until la); wrong = first-wrong (l ∷ until la) }) end named
-          ∙ ap (λ (v : Tally). record { at = l .at; end = c; kind = statement-kind (l .kind); name = name; tokens = v .tokens; wrong = v .wrong }) (sym told) in
-    (ap (λ ls. summaries s (runs ls)) (h .0) ∙ ap (summaries s) (runs-first l la)
-      ∙ ap₂ (λ x rs. x ∷ summaries s (runs rs)) is (ap from-next (k .same) ∙ sym (w .left)),
+    ap₂ (λ e x. record { at = l .at; end = e; kind = statement-kind (l .kind); name = x; tokens = length (l ∷ until la); wrong = first-wrong (l ∷ until la) }) end named
+    ∙ ap (λ (v : Tally). record { at = l .at; end = c; kind = statement-kind (l .kind); name = name; tokens = v .tokens; wrong = v .wrong }) (sym told) in (
+      ap (λ ls. summaries s (runs ls)) (h .0) ∙ ap (summaries s) (runs-first l la)
+          ∙ ap₂ (λ x rs. x ∷ summaries s (runs rs)) is (ap from-next (k .same) ∙ sym (w .left)),
       refl,
-      omega (arith, h .1, h .2, h .3, k .forward, w .forward))
+      omega (arith, h .1, h .2, h .3, k .forward, w .forward),
+    )
 
 -- the same, from readings of a script that has stayed
 pub stated-since : (s s₁ s₂ : List ℕ) (from a b c : ℕ) (l : Lexeme) (kind : Option StatementKind) (second : Option Lexeme) (name : Option Span) (t₀ t : Tally) → s₁ ≡ s → s₂ ≡ s₁ → Lexeme-taken s from a (Some l) → kind ≡ statement-kind (l .kind) → Sought s₁ a b second → name ≡ entered s₂ kind second → t₀ ≡ one-more none-yet l → Counted s₂ b c t₀ t → Statement-taken s from c (Some (record { at = l .at; end = c; kind = kind; name = name; tokens = t .tokens; wrong = t .wrong }))
 stated-since s s₁ s₂ from a b c l kind second name t₀ t e₁ e₂ h ke k n te w =
     subst (λ x. Statement-taken s from c (Some (record { at = l .at; end = c; kind = x; name = name; tokens = t .tokens; wrong = t .wrong }))) (sym ke)
-      (stated s from a b c l second name t h (subst (λ x. Sought x a b second) e₁ k)
-        (n ∙ ap₂ (λ x y. entered x y second) (e₂ ∙ e₁) ke) (subst (λ x. Counted x b c (one-more none-yet l) t) (e₂ ∙ e₁) (subst (λ x. Counted s₂ b c x t) te w)))
+    (stated s from a b c l second name t h (subst (λ x. Sought x a b second) e₁ k)
+    (n ∙ ap₂ (λ x y. entered x y second) (e₂ ∙ e₁) ke) (subst (λ x. Counted x b c (one-more none-yet l) t) (e₂ ∙ e₁) (subst (λ x. Counted s₂ b c x t) te w)))
 
 pub none-stated : (s : List ℕ) (from to : ℕ) → Lexeme-taken s from to None → Statement-taken s from to None
 unfolding statements-from

@@ -23,8 +23,8 @@ leads : (p : ℕ → Bool) (bs : List ℕ) → All (λ b. p b ≡ true) (take (l
 leads p [] = tt
 leads p (b ∷ bs) =
     cond-both (p b) _ _ (λ n. All (λ c. p c ≡ true) (take n (b ∷ bs)))
-      (λ e. subst (λ n. All (λ c. p c ≡ true) (take n (b ∷ bs))) (sym (one-add (leading p bs))) (e, leads p bs))
-      (λ e. tt)
+    (λ e. subst (λ n. All (λ c. p c ≡ true) (take n (b ∷ bs))) (sym (one-add (leading p bs))) (e, leads p bs))
+    (λ e. tt)
 
 pub word-first : (bs : List ℕ) (k : Kind) (n : ℕ) → 0 < length bs → letter (getD bs 0 0) ≡ true → n ≡ leading word-byte bs → k ≡ word-kind (take n bs) → token k n ≡ token-of bs
 unfolding token-piece

@@ -37,7 +37,7 @@ symbol-fits : (ws : List (List ℕ × Kind)) (b : ℕ) (bs : List ℕ) (p : Piec
 symbol-fits [] b bs p h k = k
 symbol-fits (w ∷ ws) b bs p h k =
     cond-both (begins-with (w .0) (b ∷ bs)) _ _ (λ o. Fits (length bs) (piece-or o p))
-      (λ e. (h .0, begins-fits (w .0) (b ∷ bs) e)) (λ e. symbol-fits ws b bs p (h .1) k)
+    (λ e. (h .0, begins-fits (w .0) (b ∷ bs) e)) (λ e. symbol-fits ws b bs p (h .1) k)
 
 or-fits : (n : ℕ) (x y : Option Piece) (p : Piece) → Fits n (piece-or x p) → Fits n (piece-or y p) → Fits n (piece-or (or-else x y) p)
 or-fits n None y p h k = k
@@ -47,19 +47,19 @@ token-fits : (b : ℕ) (bs : List ℕ) → Fits (length bs) (token-piece b bs)
 unfolding token-piece
 token-fits b bs =
     cond-both (letter b) _ _ (Fits (length bs))
-      (λ e. (leads-one word-byte b bs (or-left (letter b) _ e), leading-le-length word-byte (b ∷ bs)))
-      (λ e. cond-both (asciiDigit b) _ _ (Fits (length bs))
-        (λ f. (leads-one asciiDigit b bs f, leading-le-length asciiDigit (b ∷ bs)))
-        (λ f. or-fits (length bs) (symbol joining-symbols (b ∷ bs)) (symbol single-symbols (b ∷ bs)) _
-          (symbol-fits joining-symbols b bs _ (omega arith) (omega arith, omega arith))
-          (symbol-fits single-symbols b bs _ (omega arith) (omega arith, omega arith))))
+    (λ e. (leads-one word-byte b bs (or-left (letter b) _ e), leading-le-length word-byte (b ∷ bs)))
+    (λ e. cond-both (asciiDigit b) _ _ (Fits (length bs))
+    (λ f. (leads-one asciiDigit b bs f, leading-le-length asciiDigit (b ∷ bs)))
+    (λ f. or-fits (length bs) (symbol joining-symbols (b ∷ bs)) (symbol single-symbols (b ∷ bs)) _
+    (symbol-fits joining-symbols b bs _ (omega arith) (omega arith, omega arith))
+    (symbol-fits single-symbols b bs _ (omega arith) (omega arith, omega arith))))
 
 pub piece-fits : (fresh : Bool) (b : ℕ) (bs : List ℕ) → Fits (length bs) (piece fresh b bs)
 piece-fits fresh b bs =
     cond-both (fresh && begins-with (codes "--") (b ∷ bs)) _ _ (Fits (length bs))
-      (λ e. let d = eqb-true 45 b (and-parts (eqb 45 b) _ (and-parts fresh _ e .1) .0) in
-        (leads-one in-line b bs (ap in-line (sym d)), leading-le-length in-line (b ∷ bs)))
-      (λ e. cond-both (blank b) _ _ (Fits (length bs)) (λ f. (omega arith, omega arith)) (λ f. token-fits b bs))
+    (λ e. let d = eqb-true 45 b (and-parts (eqb 45 b) _ (and-parts fresh _ e .1) .0) in
+    (leads-one in-line b bs (ap in-line (sym d)), leading-le-length in-line (b ∷ bs)))
+    (λ e. cond-both (blank b) _ _ (Fits (length bs)) (λ f. (omega arith, omega arith)) (λ f. token-fits b bs))
 
 -- the bytes passed over: the line is fresh if the last of them is LF
 passed-over : (k : ℕ) (f : Bool) (bs : List ℕ) (at : ℕ) → parts (suc k) f bs at ≡ parts 0 (eqb (getD bs k 0) 10) (drop (suc k) bs) (at + suc k)

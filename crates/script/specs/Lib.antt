@@ -4,3 +4,7 @@ pub mod Scan
 pub mod Statements
 pub mod Walk
 pub mod View
+pub mod Laws
+pub mod Names
+pub mod Faults
+pub mod Outline

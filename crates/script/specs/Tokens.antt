@@ -139,7 +139,7 @@ token-piece b bs =
 abbrev pub piece : Bool → ℕ → List ℕ → Piece
 piece fresh b bs =
     cond (fresh && begins-with (codes "--") (b ∷ bs)) (gap (leading in-line (b ∷ bs)))
-      (cond (blank b) (gap 1) (token-piece b bs))
+    (cond (blank b) (gap 1) (token-piece b bs))
 
 abbrev pub next-piece : Bool → List ℕ → Option Piece
 next-piece fresh [] = None

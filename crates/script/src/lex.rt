@@ -121,11 +121,17 @@ fn lexeme(rest: &[u8]) -> Piece
     let b = rest[0];
     if is_letter(b) {
         let len = Run::Word.len(rest);
-        return Piece { kind: Some(word(&rest[..len])), len };
+        return Piece {
+            kind: Some(word(&rest[..len])),
+            len,
+        };
     }
     if b.is_ascii_digit() {
         let len = Run::Digits.len(rest);
-        return Piece { kind: Some(number(&rest[..len])), len };
+        return Piece {
+            kind: Some(number(&rest[..len])),
+            len,
+        };
     }
     spell::symbol_or_byte(rest)
 }
@@ -148,7 +154,10 @@ pub fn first_piece(fresh: bool, rest: &[u8]) -> Option<Piece>
         return None;
     }
     if is_comment(fresh, rest) {
-        return Some(Piece { kind: None, len: Run::Line.len(rest) });
+        return Some(Piece {
+            kind: None,
+            len: Run::Line.len(rest),
+        });
     }
     if is_blank(rest[0]) {
         return Some(Piece { kind: None, len: 1 });

@@ -141,7 +141,10 @@ fn starts(rest: &[u8], w: &[u8]) -> bool
 fn mark(mark: Mark, len: usize) -> Option<Piece>
     ensures { λ r. ⌜ r ≡ a-mark mark len ⌝ }
 {
-    Some(Piece { kind: Some(Kind::Fixed(mark)), len })
+    Some(Piece {
+        kind: Some(Kind::Fixed(mark)),
+        len,
+    })
 }
 
 fn joining_symbol(rest: &[u8]) -> Option<Piece>
@@ -208,5 +211,8 @@ pub fn symbol_or_byte(rest: &[u8]) -> Piece
     if let Some(p) = single_symbol(rest) {
         return p;
     }
-    Piece { kind: Some(Kind::NoToken), len: 1 }
+    Piece {
+        kind: Some(Kind::NoToken),
+        len: 1,
+    }
 }

@@ -4,6 +4,7 @@ ghost use Prim.Native.Nat.{_<_, _+_, _^_};
 ghost use lib.ListN.{getD};
 ghost use Rattle.std.specs.Text.{asciiLetter};
 ghost use Rattle.script.specs.Statements.{statement-kind, kind-of-word, first-word, entered};
+ghost use Rattle.script.specs.Faults.{fault-number, fault-place, token-check};
 ghost use Rattle.script.specs.Walk.{one-more, none-yet};
 use crate::token::FirstWord;
 use crate::token::Kind;
@@ -38,6 +39,13 @@ pub struct Statement {
     pub wrong: Option<usize>,
 }
 
+/// Why a statement is refused before it is read, with the place.
+#[derive(Clone, Copy)]
+pub enum ScriptFault {
+    NoToken(usize),
+    TooManyTokens(usize),
+}
+
 /// How many lexemes there were, and the place of the first that is no token.
 #[derive(Clone, Copy)]
 pub struct Tally {
@@ -45,12 +53,49 @@ pub struct Tally {
     pub wrong: Option<usize>,
 }
 
+impl ScriptFault {
+    /// The refusal's number.
+    pub fn number(self) -> u32
+        ensures { λ r. ⌜ r ≡ fault-number self ⌝ }
+    {
+        match self {
+            ScriptFault::NoToken(_) => 1,
+            ScriptFault::TooManyTokens(_) => 2,
+        }
+    }
+
+    /// Where it lies.
+    pub fn place(self) -> usize
+        ensures { λ r. ⌜ r ≡ fault-place self ⌝ }
+    {
+        match self {
+            ScriptFault::NoToken(at) | ScriptFault::TooManyTokens(at) => at,
+        }
+    }
+}
+
+impl Statement {
+    /// Whether each lexeme is a token, and there are at most 4,000.
+    pub fn check_tokens(&self) -> Result<(), ScriptFault>
+        ensures { λ r. ⌜ r ≡ token-check (now (self .entry)) ⌝ }
+    {
+        if let Some(at) = self.wrong {
+            return Err(ScriptFault::NoToken(at));
+        }
+        if self.tokens > 4000 {
+            return Err(ScriptFault::TooManyTokens(self.at));
+        }
+        Ok(())
+    }
+}
+
 impl FirstWord {
     pub fn statement_kind(self) -> StatementKind
         ensures { λ r. ⌜ r ≡ kind-of-word self ⌝ }
     {
         match self {
-            FirstWord::DefWord | FirstWord::TheoremWord | FirstWord::LemmaWord => StatementKind::Def,
+            FirstWord::DefWord | FirstWord::TheoremWord | FirstWord::LemmaWord =>
+                StatementKind::Def,
             FirstWord::AxiomWord | FirstWord::ConstantWord => StatementKind::Axiom,
             FirstWord::CheckWord => StatementKind::Check,
             FirstWord::EvalWord => StatementKind::Eval,
@@ -83,7 +128,10 @@ impl Tally {
     pub fn new() -> Tally
         ensures { λ r. ⌜ r ≡ none-yet ⌝ }
     {
-        Tally { tokens: 0, wrong: None }
+        Tally {
+            tokens: 0,
+            wrong: None,
+        }
     }
 
     /// The tally with one lexeme more.
@@ -95,7 +143,10 @@ impl Tally {
             (None, Kind::NoToken) => Some(l.at),
             (wrong, _) => wrong,
         };
-        Tally { tokens: self.tokens + 1, wrong }
+        Tally {
+            tokens: self.tokens + 1,
+            wrong,
+        }
     }
 }
 
@@ -106,11 +157,24 @@ fn begins_with_letter(script: &[u8], at: usize) -> bool
 }
 
 /// The name that a statement would enter, by its kind and its second lexeme.
-pub fn entered_name(script: &[u8], kind: Option<StatementKind>, second: Option<Lexeme>) -> Option<Span>
+pub fn entered_name(
+    script: &[u8],
+    kind: Option<StatementKind>,
+    second: Option<Lexeme>,
+) -> Option<Span>
     ensures { λ r. ⌜ r ≡ entered (now (script .entry)) kind second ⌝ }
 {
     match (kind, second) {
-        (Some(StatementKind::Def | StatementKind::Axiom), Some(Lexeme { kind: Kind::Name, at, len })) => {
+        (
+            Some(StatementKind::Def | StatementKind::Axiom),
+            Some(
+                Lexeme {
+                    kind: Kind::Name,
+                    at,
+                    len,
+                },
+            ),
+        ) => {
             if begins_with_letter(script, at) {
                 Some(Span { at, len })
             } else {

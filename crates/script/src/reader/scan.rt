@@ -1,8 +1,9 @@
 //! How a reader moves over parts and lexemes.
 ghost use mathlib.Core.Path.{_≡_};
-ghost use Prim.Native.Nat.{_+_, _<_, _≤_};
+ghost use Prim.Native.Nat.{min, _+_, _<_, _≤_};
 ghost use lib.ListN.{length, drop};
-ghost use Rattle.script.specs.Parts.{line-start};
+ghost use Rattle.script.specs.Laws.{Rejoins, Cuts};
+ghost use Rattle.script.specs.Parts.{line-start, lexemes-from};
 ghost use Rattle.script.specs.View.{script, Part-ahead, Part-taken, Lexeme-taken, Sought};
 use super::Reader;
 use crate::lex;
@@ -10,6 +11,29 @@ use crate::token::Lexeme;
 use crate::token::Part;
 
 impl<'a> Reader<'a> {
+    /// A reader at the script's start. Of every script it is proved that its parts put together
+    /// again give it back, and that its statements cut its lexemes into runs.
+    pub fn new(bytes: &'a [u8]) -> Reader<'a>
+        ensures start { λ r. ⌜ (script r ≡ now (bytes .entry)) × (r .at ≡ 0) ⌝ }
+        ensures rejoins { λ _. ⌜ Rejoins (now (bytes .entry)) ⌝ }
+        ensures cuts { λ _. ⌜ Cuts (lexemes-from (now (bytes .entry)) 0) ⌝ }
+    {
+        Reader {
+            script: bytes,
+            at: 0,
+        }
+    }
+
+    /// A reader at a place; one past the script's end counts as the end.
+    pub fn from_place(bytes: &'a [u8], at: usize) -> Reader<'a>
+        ensures { λ r. ⌜ (script r ≡ now (bytes .entry)) × (r .at ≡ min at (length (now (bytes .entry)))) ⌝ }
+    {
+        Reader {
+            script: bytes,
+            at: at.min(bytes.len()),
+        }
+    }
+
     /// The place reached.
     pub fn place(&self) -> usize
         ensures { λ r. ⌜ r ≡ now (self .entry) .at ⌝ }
@@ -36,8 +60,14 @@ impl<'a> Reader<'a> {
     pub fn peek(&self) -> Option<Part>
         ensures { λ r. ⌜ Part-ahead (script (now (self .entry))) (now (self .entry) .at) r ⌝ }
     {
-        let Some(piece) = lex::first_piece(self.fresh(), self.rest()) else { return None };
-        Some(Part { kind: piece.kind, at: self.at, len: piece.len })
+        let Some(piece) = lex::first_piece(self.fresh(), self.rest()) else {
+            return None
+        };
+        Some(Part {
+            kind: piece.kind,
+            at: self.at,
+            len: piece.len,
+        })
     }
 
     /// The next part, passed; none at the end.
@@ -58,7 +88,11 @@ impl<'a> Reader<'a> {
         loop {
             let Some(part) = self.peek() else { return None };
             if let Some(kind) = part.kind {
-                return Some(Lexeme { kind, at: part.at, len: part.len });
+                return Some(Lexeme {
+                    kind,
+                    at: part.at,
+                    len: part.len,
+                });
             }
             self.at += part.len;
         }
@@ -69,7 +103,9 @@ impl<'a> Reader<'a> {
         ensures script { λ _. ⌜ script (now (self .exit)) ≡ script (now (self .entry)) ⌝ }
         ensures taken { λ r. ⌜ Lexeme-taken (script (now (self .entry))) (now (self .entry) .at) (now (self .exit) .at) r ⌝ }
     {
-        let Some(lexeme) = self.seek() else { return None };
+        let Some(lexeme) = self.seek() else {
+            return None
+        };
         self.at += lexeme.len;
         Some(lexeme)
     }

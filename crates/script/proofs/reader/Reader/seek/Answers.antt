@@ -16,7 +16,7 @@ returns-in-Some-kind c =
       script = c .loop-part .inv .0;
       sought =
           found-at _ _ _ _ _ (c .loop-part .inv .0) (c .loop-part .inv .1) (c .loop-part .inv .2)
-            (lexeme-ahead _ _ (c .in-Some .part) (c .in-Some-kind .kind) (c .in-Some .ensures tt) (c .in-Some-kind .is));
+          (lexeme-ahead _ _ (c .in-Some .part) (c .in-Some-kind .kind) (c .in-Some .ensures tt) (c .in-Some-kind .is));
     }
 
 pub loop-part-again : need.loop-part-again
