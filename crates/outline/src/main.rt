@@ -1,6 +1,6 @@
 //! Outlines the script on standard input: seven lines for each of its statements.
-use script::outline::MOST_BYTES;
-use script::outline::outline_text;
+use report::outline::MOST_BYTES;
+use report::outline::outline_text;
 use std::io;
 use std::io::Read;
 use std::io::Write;

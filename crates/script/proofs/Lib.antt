@@ -7,4 +7,3 @@ pub mod Runs
 pub mod Counts
 pub mod Laws
 pub mod Nearest
-pub mod Texts

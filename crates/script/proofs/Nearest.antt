@@ -1,6 +1,6 @@
 -- The nearest record, searched from the last.
 use mathlib.Core.Path.{_≡_, sym, ap, _∙_}
-use mathlib.Core.Bool.{Bool, cond}
+use mathlib.Core.Bool.{Bool, true, false, cond}
 use mathlib.Core.List.{List, [], _∷_, _++_}
 use Prim.Native.Nat.{ℕ, min, _+_, _-_, _^_, _<_, _≤_}
 use native.Mathlib.Omega.{arith}
@@ -9,6 +9,7 @@ use lib.ListN.{length, drop, take, getD}
 use Rattle.std.specs.declared.option.Option.{Option}
 use Rattle.std.specs.declared.option.Option.the-variants.{Some, None}
 use Rattle.std.proofs.shelf.Lists.{take-more, length-take-le, places, same-lists}
+use Rattle.std.proofs.shelf.Tests.{cond-true, cond-false}
 use Rattle.script.specs.Names.{nearest, last-from, bytes-at}
 
 from-push : {X : Type 0} (p : X → Bool) (i : ℕ) (best : Option ℕ) (xs : List X) (x : X) → last-from p i best (xs ++ x ∷ []) ≡ cond (p x) (Some (i + length xs)) (last-from p i best xs)
@@ -17,10 +18,17 @@ from-push p i best (y ∷ xs) x =
     from-push p (i + 1) (cond (p y) (Some i) best) xs x ∙ ap (λ k. cond (p x) (Some k) (last-from p (i + 1) (cond (p y) (Some i) best) xs)) (omega arith)
 
 -- one record more
-pub nearest-step : {X : Type 0} (p : X → Bool) (xs : List X) (i n : ℕ) (x : X) → n ≡ i + 1 → i < length xs → x ≡ getD xs i x → nearest p (take n xs) ≡ cond (p x) (Some i) (nearest p (take i xs))
-nearest-step p xs i n x e h is =
-    ap (λ k. nearest p (take k xs)) e ∙ ap (nearest p) (take-more xs i x h) ∙ ap (λ y. nearest p (take i xs ++ y ∷ [])) (sym is)
-    ∙ from-push p 0 None (take i xs) x ∙ ap (λ k. cond (p x) (Some k) (nearest p (take i xs))) (omega (arith, length-take-le i xs (omega arith)))
+module _ {X : Type 0} (p : X → Bool) (xs : List X) (i n : ℕ) (x : X) (e : n ≡ i + 1) (h : i < length xs) (is : x ≡ getD xs i x) where
+  step : nearest p (take n xs) ≡ cond (p x) (Some i) (nearest p (take i xs))
+  step =
+      ap (λ k. nearest p (take k xs)) e ∙ ap (nearest p) (take-more xs i x h) ∙ ap (λ y. nearest p (take i xs ++ y ∷ [])) (sym is)
+      ∙ from-push p 0 None (take i xs) x ∙ ap (λ k. cond (p x) (Some k) (nearest p (take i xs))) (omega (arith, length-take-le i xs (omega arith)))
+
+  pub nearest-hit : p x ≡ true → nearest p (take n xs) ≡ Some i
+  nearest-hit t = step ∙ cond-true (p x) (Some i) (nearest p (take i xs)) t
+
+  pub nearest-miss : p x ≡ false → nearest p (take n xs) ≡ nearest p (take i xs)
+  nearest-miss t = step ∙ cond-false (p x) (Some i) (nearest p (take i xs)) t
 
 -- a part that is cut off at the end
 pub clip : (s : List ℕ) (at n from to : ℕ) → from ≡ min at (length s) → to ≡ min (min (from + n) (2 ^ 64 - 1)) (length s) → length s < 2 ^ 64 → take (to - from) (drop from s) ≡ bytes-at s at n

@@ -7,4 +7,3 @@ pub mod View
 pub mod Laws
 pub mod Names
 pub mod Faults
-pub mod Outline

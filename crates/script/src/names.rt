@@ -54,9 +54,7 @@ fn has_name<R: Named>(script: &[u8], x: &R, name: &[u8]) -> bool
 pub fn find<R: Named>(script: &[u8], records: &[R], name: &[u8]) -> Option<usize>
     ensures { λ r. ⌜ r ≡ nearest (λ x. named (now (script .entry)) (now (name .entry)) (place x) (size x)) (now (records .entry)) ⌝ }
 {
-    let mut i = records.len();
-    while i > 0 {
-        i -= 1;
+    for i in (0..records.len()).rev() {
         if has_name(script, &records[i], name) {
             return Some(i);
         }

@@ -6,8 +6,5 @@ use Rattle.script.proofs.names.find.Given as given
 
 abbrev pub Inv-loop-i : given.InvT-loop-i
 Inv-loop-i g l =
-    (l .i ≤ length (l .records))
-    × (nearest (λ x. named (l .script) (l .name) (g .R·Named .place x) (g .R·Named .size x)) (take (l .i) (l .records)) ≡ nearest (λ x. named (l .script) (l .name) (g .R·Named .place x) (g .R·Named .size x)) (l .records))
-
-abbrev pub μ-loop-i : given.MeasureT-loop-i
-μ-loop-i g l = l .i
+    nearest (λ x. named (l .script) (l .name) (g .R·Named .place x) (g .R·Named .size x)) (take (l .i) (l .records))
+    ≡ nearest (λ x. named (l .script) (l .name) (g .R·Named .place x) (g .R·Named .size x)) (l .records)

@@ -8,12 +8,12 @@ use lib.ListN.{length}
 use Rattle.std.specs.declared.option.Option.the-variants.{None, Some}
 use Rattle.std.specs.declared.result.Result.{Result}
 use Rattle.std.proofs.shelf.Tests.{cond-true, cond-false, lt-ltb, le-ltb}
 use Rattle.script.specs.declared.statement.Statement.{Statement}
 use Rattle.script.specs.declared.statement.ScriptFault.{ScriptFault}
 use Rattle.script.specs.Faults.{token-check}
 use Rattle.script.specs.Statements.{statements-from}
 use Rattle.script.specs.View.{Statement-taken}
-use Rattle.script.specs.Outline.{Appended, line, answer-text, place-text, answer-lines, lines, all-lines, outline}
+use Rattle.report.specs.Outline.{Appended, line, answer-text, place-text, answer-lines, lines, all-lines, outline}
 
 pub then-more : {i a j b k : List ℕ} → Appended i a j → Appended j b k → Appended i (a ++ b) k
 then-more {i} {a} {j} {b} {k} e f = record { whole = f .whole ∙ ap (λ l. l ++ b) (e .whole) ∙ append-assoc i a b }

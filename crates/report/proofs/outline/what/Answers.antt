@@ -1,6 +1,6 @@
 use lib.Chars.{codes}
-use Rattle.script.proofs.Texts.{then-more, line-of}
-use Rattle.script.proofs.outline.what.Needs as need
+use Rattle.report.proofs.Texts.{then-more, line-of}
+use Rattle.report.proofs.outline.what.Needs as need
 
 pub returns : need.returns
 returns c =

@@ -3,10 +3,10 @@ use mathlib.Core.List.{_++_}
 use Prim.Native.Nat.{_+_, _-_, _≤_}
 use lib.ListN.{length}
 use Rattle.std.specs.Of.Vec.{vec-items}
-use Rattle.script.specs.Outline.{all-lines}
+use Rattle.report.specs.Outline.{all-lines}
 use Rattle.script.specs.Statements.{statements-from}
 use Rattle.script.specs.View.{script}
-use Rattle.script.proofs.outline.outline_text.Given as given
+use Rattle.report.proofs.outline.outline_text.Given as given
 
 abbrev pub Inv-loop-st : given.InvT-loop-st
 Inv-loop-st l =

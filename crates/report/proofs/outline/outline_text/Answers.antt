@@ -1,7 +1,7 @@
 use mathlib.Core.Path.{_∙_}
 use native.Mathlib.Omega.{arith}
-use Rattle.script.proofs.Texts.{too-long, told, told-all}
-use Rattle.script.proofs.outline.outline_text.Needs as need
+use Rattle.report.proofs.Texts.{too-long, told, told-all}
+use Rattle.report.proofs.outline.outline_text.Needs as need
 
 pub returns-then-script-gt-MOST-BYTES : need.returns-then-script-gt-MOST-BYTES
 returns-then-script-gt-MOST-BYTES c = too-long (c .args .script .now) _ _ (c .if-script-gt-MOST-BYTES .taken) (c .new-out .ensures .items) (c .in-Continue-text-line .ensures tt)

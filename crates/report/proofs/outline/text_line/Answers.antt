@@ -1,8 +1,8 @@
 use mathlib.Core.Path.{refl}
 use mathlib.Core.List.{_∷_, []}
 use Rattle.std.proofs.shelf.Parts.{pushed}
-use Rattle.script.proofs.Texts.{then-more, as-line}
-use Rattle.script.proofs.outline.text_line.Needs as need
+use Rattle.report.proofs.Texts.{then-more, as-line}
+use Rattle.report.proofs.outline.text_line.Needs as need
 
 pub returns : need.returns
 returns c =

@@ -2,8 +2,8 @@ use lib.Chars.{codes}
 use mathlib.Core.Path.{ap}
 use Rattle.std.specs.Written.{decimal}
 use Rattle.std.specs.declared.result.Result.the-variants.{Ok, Err}
-use Rattle.script.proofs.Texts.{then-more, line-of, answered}
-use Rattle.script.proofs.outline.answer.Needs as need
+use Rattle.report.proofs.Texts.{then-more, line-of, answered}
+use Rattle.report.proofs.outline.answer.Needs as need
 
 pub returns-in-Continue-text-line-2 : need.returns-in-Continue-text-line-2
 returns-in-Continue-text-line-2 c = answered (c .args .st .now) (Ok tt) (c .in-Ok .ensures tt) (then-more (c .in-Continue-text-line .ensures tt) (c .in-Continue-text-line-2 .ensures tt))

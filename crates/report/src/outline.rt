@@ -3,11 +3,11 @@ ghost use mathlib.Core.Path.{_≡_};
 ghost use Rattle.std.specs.Of.Vec.{vec-items};
 ghost use Rattle.std.specs.Vec.{made};
 ghost use Rattle.std.specs.Written.{decimal};
-ghost use Rattle.script.specs.Outline.{Appended, line, kind-text, name-text, what-lines, answer-lines, lines, outline};
-use crate::reader::Reader;
-use crate::statement::Span;
-use crate::statement::Statement;
-use crate::statement::StatementKind;
+ghost use Rattle.report.specs.Outline.{Appended, line, kind-text, name-text, what-lines, answer-lines, lines, outline};
+use script::reader::Reader;
+use script::statement::Span;
+use script::statement::Statement;
+use script::statement::StatementKind;
 use std::alloc::AllocError;
 use std::alloc::Global;
 

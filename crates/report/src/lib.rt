@@ -1,0 +1,2 @@
+//! The lines that the programs print.
+pub mod outline;
