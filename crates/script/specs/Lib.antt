@@ -1,3 +1,4 @@
+pub mod Marks
 pub mod Tokens
 pub mod Parts
 pub mod Scan

@@ -1,38 +1,50 @@
 //! What a script is made of: tokens, and what parts them.
+ghost use mathlib.Core.Path.{_≡_};
+ghost use Rattle.script.specs.Marks.{code};
 
-/// A reserved word or a symbol of the language of terms.
+/// A reserved word or a symbol of the language of terms, in this order: what begins an atom, what
+/// begins a head, what begins a longer form, what joins, what closes or parts.
 #[derive(Clone, Copy)]
 pub enum Mark {
     TypeWord,
     PropWord,
     KindWord,
     SortWord,
+    Opens,
+    OpensBrace,
+    MatchWord,
+    FstWord,
+    SndWord,
+    InlWord,
+    InrWord,
     FunWord,
     PiWord,
     ForallWord,
     SigmaWord,
     ExistsWord,
     LetWord,
-    InWord,
-    FstWord,
-    SndWord,
-    InlWord,
-    InrWord,
-    MatchWord,
-    WithWord,
-    EndWord,
     Arrow,
-    Maps,
-    Becomes,
-    Colon,
-    Opens,
-    Closes,
-    OpensBrace,
-    ClosesBrace,
-    Comma,
     Plus,
     Times,
+    Closes,
+    ClosesBrace,
+    Comma,
+    Colon,
+    Becomes,
+    Maps,
     Bar,
+    InWord,
+    WithWord,
+    EndWord,
+}
+
+impl Mark {
+    /// Its number in that order.
+    pub fn code(self) -> u8
+        ensures { λ r. ⌜ r ≡ code self ⌝ }
+    {
+        self as u8
+    }
 }
 
 /// One of the seven words that begin statements.

@@ -1,0 +1,4 @@
+//! Scripts, worked by hand, and what is told of them.
+
+#[cfg(test)]
+mod outlines;
