@@ -1,8 +1,9 @@
 //! The search by name, for any record that tells where its name stands in the script.
 ghost use mathlib.Core.Path.{_≡_};
-ghost use Prim.Native.Nat.{ℕ};
+ghost use Prim.Native.Nat.{ℕ, _<_, _≤_};
+ghost use lib.ListN.{length};
 ghost use Rattle.std.specs.shelf.Text.{sameBytes};
-ghost use Rattle.script.specs.Names.{bytes-at, named, nearest};
+ghost use Rattle.script.specs.Names.{bytes-at, named, nearest, Steps-back};
 use crate::spell;
 use crate::statement::Span;
 
@@ -50,14 +51,25 @@ fn has_name<R: Named>(script: &[u8], x: &R, name: &[u8]) -> bool
     same_name(x.name().bytes(script), name)
 }
 
+// Whether the last of the first `n` records has this name. If not, what is nearest lies before it.
+fn last_has_name<R: Named>(script: &[u8], records: &[R], n: usize, name: &[u8]) -> bool
+    requires some { ⌜ 0 < n ⌝ }
+    requires few { ⌜ n ≤ length (now records) ⌝ }
+    ensures { λ r. ⌜ Steps-back r (λ x. named (now (script .entry)) (now (name .entry)) (place x) (size x)) n (now (records .entry)) ⌝ }
+{
+    has_name(script, &records[n - 1], name)
+}
+
 /// The nearest of the records with this name, which is the last of them.
 pub fn find<R: Named>(script: &[u8], records: &[R], name: &[u8]) -> Option<usize>
     ensures { λ r. ⌜ r ≡ nearest (λ x. named (now (script .entry)) (now (name .entry)) (place x) (size x)) (now (records .entry)) ⌝ }
 {
-    for i in (0..records.len()).rev() {
-        if has_name(script, &records[i], name) {
-            return Some(i);
+    let mut n = records.len();
+    while n > 0 {
+        if last_has_name(script, records, n, name) {
+            return Some(n - 1);
         }
+        n -= 1;
     }
     None
 }
