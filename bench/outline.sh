@@ -1,5 +1,5 @@
 #!/usr/bin/env bash
-# Times target/bin/outline on four shapes of script at three lengths. Needs: rt check outline
+# Measures target/bin/outline on four shapes of script at three lengths. Needs: rt check outline
 set -eu
 cd "$(dirname "$0")/.."
 dir=$(mktemp -d)
@@ -8,7 +8,7 @@ shape() {
   case $1 in
     statements) yes 'def x : A := f y' ;;
     one-statement) printf 'check '; yes '(f x)' ;;
-    comments) yes '-- a line that says nothing' ;;
+    comments) yes -- '-- a line that says nothing' ;;
     no-tokens) yes '@' | tr -d '\n' ;;
   esac
 }
@@ -23,6 +23,7 @@ for kind in statements one-statement comments no-tokens; do
       took=$(( (to - from) / 10000 ))
       [ $took -lt $best ] && best=$took
     done
-    printf '%-14s %8d bytes %6d.%02d ms\n' $kind $size $((best / 100)) $((best % 100))
+    count=$(valgrind --tool=callgrind --callgrind-out-file=/dev/null target/bin/outline < "$dir/script" 2>&1 > "$dir/out" | sed -n 's/.*Collected : *//p')
+    printf '| %s | %d | %d | %d.%02d ms |\n' $kind $size "$count" $((best / 100)) $((best % 100))
   done
 done

@@ -2,3 +2,5 @@
 
 #[cfg(test)]
 mod outlines;
+#[cfg(test)]
+mod reprints;

@@ -2,33 +2,16 @@
 ghost use mathlib.Core.Path.{_≡_};
 ghost use Rattle.std.specs.Of.Vec.{vec-items};
 ghost use Rattle.std.specs.Vec.{made};
-ghost use Rattle.std.specs.Written.{decimal};
-ghost use Rattle.report.specs.Outline.{Appended, line, kind-text, name-text, what-lines, answer-lines, lines, outline};
+ghost use Rattle.report.specs.Outline.{Appended, kind-text, name-text, what-lines, answer-lines, lines, outline};
+use crate::lines::MOST_BYTES;
+use crate::lines::number_line;
+use crate::lines::text_line;
 use script::reader::Reader;
 use script::statement::Span;
 use script::statement::Statement;
 use script::statement::StatementKind;
 use std::alloc::AllocError;
 use std::alloc::Global;
-
-/// The longest script that is outlined.
-pub const MOST_BYTES: usize = 1_000_000;
-
-fn text_line(out: &mut Vec<u8>, key: &[u8], value: &[u8]) -> Result<(), AllocError>
-    ensures { λ r. ⌜ made r (λ _. Appended (vec-items (now (out .entry))) (line (now (key .entry)) (now (value .entry))) (vec-items (now (out .exit)))) ⌝ }
-{
-    out.extend_from_slice(key)?;
-    out.extend_from_slice(value)?;
-    out.push(b'\n')?;
-    Ok(())
-}
-
-fn number_line(heap: Global, out: &mut Vec<u8>, key: &[u8], value: usize) -> Result<(), AllocError>
-    ensures { λ r. ⌜ made r (λ _. Appended (vec-items (now (out .entry))) (line (now (key .entry)) (decimal value)) (vec-items (now (out .exit)))) ⌝ }
-{
-    let digits = value.to_string(heap)?;
-    text_line(out, key, digits.as_bytes())
-}
 
 fn kind_word(kind: Option<StatementKind>) -> &'static [u8]
     ensures { λ r. ⌜ now r ≡ kind-text kind ⌝ }

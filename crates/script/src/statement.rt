@@ -150,7 +150,8 @@ impl Tally {
     }
 }
 
-fn begins_with_letter(script: &[u8], at: usize) -> bool
+/// Whether the byte at a place is a letter.
+pub fn begins_with_letter(script: &[u8], at: usize) -> bool
     ensures { λ r. ⌜ r ≡ asciiLetter (getD (now (script .entry)) at 0) ⌝ }
 {
     at < script.len() && script[at].is_ascii_alphabetic()

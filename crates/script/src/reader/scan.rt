@@ -34,6 +34,13 @@ impl<'a> Reader<'a> {
         }
     }
 
+    /// The script.
+    pub fn script(&self) -> &'a [u8]
+        ensures { λ r. ⌜ now r ≡ script (now (self .entry)) ⌝ }
+    {
+        self.script
+    }
+
     /// The place reached.
     pub fn place(&self) -> usize
         ensures { λ r. ⌜ r ≡ now (self .entry) .at ⌝ }

@@ -1,0 +1,21 @@
+pub mod Reader
+pub mod Phrases
+pub mod Pieces
+pub mod Words
+pub mod Names
+pub mod Atoms
+pub mod Whole
+pub mod Depths
+pub mod Back
+pub mod Scans
+pub mod Tokens
+pub mod Sound
+pub mod RoundTrip
+pub mod Good
+pub mod Lookups
+pub mod Fresh
+pub mod Completing
+pub mod Framing
+pub mod Misfit
+pub mod Sentences
+mod Samples

@@ -1,0 +1,9 @@
+pub mod Words
+pub mod Grammar
+pub mod Statements
+pub mod Reader
+pub mod Phrases
+pub mod Text
+pub mod RoundTrip
+pub mod Misfit
+pub mod Sentences

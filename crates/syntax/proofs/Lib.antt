@@ -1,0 +1,4 @@
+pub mod Scopes
+pub mod Logic
+pub mod Ends
+pub mod Statements
