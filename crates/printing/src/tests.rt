@@ -4,11 +4,11 @@ use crate::printer::print;
 use script::statement::Span;
 use std::test::*;
 use term::arena::Arena;
+use term::faults::SpentDebug;
+use term::faults::UnmadeDebug;
 use term::node::Binary;
 use term::node::Node;
-use term::node::SpentDebug;
 use term::node::Unary;
-use term::node::UnmadeDebug;
 
 // Binders are numbered from the outermost, and the bytes past the text stay.
 #[test]
