@@ -1,4 +1,5 @@
 //! Scripts, worked by hand, and what is told of them.
+#![tactic(auto)]
 
 #[cfg(test)]
 mod outlines;

@@ -1,4 +1,6 @@
 //! The grammar of scripts: how terms and statements are read, and how terms are printed.
+#![tactic(auto)]
+
 ghost use Rattle.grammar.specs.Misfit.{Misfits};
 ghost use Rattle.grammar.specs.Phrases.{ReadPhrases, PhrasesRead};
 ghost use Rattle.grammar.specs.Reader.{OneReading};

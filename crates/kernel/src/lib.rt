@@ -1,4 +1,6 @@
 //! Types: what a term has, what it meets, and the judging of statements.
+#![tactic(auto)]
+
 pub mod fault;
 pub mod judge;
 mod steps;

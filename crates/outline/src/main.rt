@@ -1,4 +1,6 @@
 //! Outlines the script on standard input: seven lines for each of its statements.
+#![tactic(auto)]
+
 use report::input::read_script;
 use report::outline::outline_text;
 use std::io;

@@ -1,4 +1,6 @@
 //! The lines that the programs print.
+#![tactic(auto)]
+
 pub mod input;
 pub mod lines;
 pub mod outline;

@@ -1,4 +1,6 @@
 //! Reprints the script on standard input: four lines for each of its statements.
+#![tactic(auto)]
+
 use report::input::read_script;
 use report::reprint::reprint_text;
 use std::io;

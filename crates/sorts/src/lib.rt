@@ -1,4 +1,6 @@
 //! Sort systems: which sort lies above a sort, and which sort joins two.
+#![tactic(auto)]
+
 ghost use Rattle.std.specs.Prelude.{◌≡◌, ℕ, Option};
 ghost use Rattle.rules.specs.Rules.{Question, above, join};
 ghost use Rattle.sorts.specs.Systems.{lcplus, ladder, fence};

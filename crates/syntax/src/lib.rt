@@ -1,4 +1,6 @@
 //! Reading: the words of a statement are read by the grammar into cells.
+#![tactic(auto)]
+
 pub mod ahead;
 pub mod fault;
 pub mod known;

@@ -1,4 +1,5 @@
 //! Examples of lifting, lowering, putting in, counting, comparing and storing, worked by hand.
+#![tactic(auto)]
 
 #[cfg(test)]
 mod binders;

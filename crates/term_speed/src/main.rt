@@ -1,5 +1,7 @@
 //! Lifts trees of 1,000, 10,000 and 100,000 cells, and puts a term into them. Their cells go to
 //! standard output, and the time that each took to standard error.
+#![tactic(auto)]
+
 ghost use Rattle.std.specs.Prelude.{ℕ, ◌<◌, IfOk};
 ghost use Rattle.term.specs.State.{cells_in, Kept};
 
