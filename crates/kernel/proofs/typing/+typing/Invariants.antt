@@ -43,11 +43,11 @@ decreases-lambda g l = 8 * l.arena.now.left + 2
 abbrev pub decreases-left : goal.decreases-left
 decreases-left g l = 8 * l.arena.now.left + 2
 
-abbrev pub decreases-meet-one : goal.decreases-meet-one
-decreases-meet-one g l = 8 * l.arena.now.left + 5
+abbrev pub decreases-meet_one : goal.decreases-meet_one
+decreases-meet_one g l = 8 * l.arena.now.left + 5
 
-abbrev pub decreases-meet-two : goal.decreases-meet-two
-decreases-meet-two g l = 8 * l.arena.now.left + 5
+abbrev pub decreases-meet_two : goal.decreases-meet_two
+decreases-meet_two g l = 8 * l.arena.now.left + 5
 
 abbrev pub decreases-one : goal.decreases-one
 decreases-one g l = 8 * l.arena.now.left + 5

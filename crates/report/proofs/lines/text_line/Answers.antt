@@ -6,6 +6,6 @@ use Rattle.report.proofs.lines.text_line.Goals as goal
 pub returns : goal.returns
 returns c =
     as_line c.args.key.now c.args.value.now
-    (then_more (record { whole = pushed c.args.key.now refl c.in-ok-extend-from-slice.was c.extend-from-slice.ensures.items })
-    (then_more (record { whole = pushed c.args.value.now refl c.in-ok-extend-from-slice-2.was c.extend-from-slice-2.ensures.items })
-    (record { whole = pushed (10 ∷ []) refl c.in-ok-push.was c.push.ensures.items })))
+    (then_more (record { whole = pushed c.args.key.now refl c.in_ok-extend_from_slice.was c.extend_from_slice.ensures.items })
+    (then_more (record { whole = pushed c.args.value.now refl c.in_ok-extend_from_slice-2.was c.extend_from_slice-2.ensures.items })
+    (record { whole = pushed (10 ∷ []) refl c.in_ok-push.was c.push.ensures.items })))

@@ -6,5 +6,5 @@ use Rattle.script.proofs.spell.starts.Goals as goal
 
 pub returns : goal.returns
 returns c =
-    same_from_decides _ _ (slice_eq-Decides Decides-eqb _ _ _ c.starts-with.ensures.value) (bytes_eq-Decides _ _)
+    same_from_decides _ _ (slice_eq-Decides Decides-eqb _ _ _ c.starts_with.ensures.value) (bytes_eq-Decides _ _)
     ∙ same_front c.args.w.now c.args.rest.now

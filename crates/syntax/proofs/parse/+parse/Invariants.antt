@@ -53,8 +53,8 @@ decreases-prods l = 12 * length (left l.r.now) + 5
 abbrev pub decreases-sums : goal.decreases-sums
 decreases-sums l = 12 * length (left l.r.now) + 6
 
-abbrev pub decreases-two-arms : goal.decreases-two-arms
-decreases-two-arms l = 12 * length (left l.r.now) + 1
+abbrev pub decreases-two_arms : goal.decreases-two_arms
+decreases-two_arms l = 12 * length (left l.r.now) + 1
 
 abbrev pub decreases-typed : goal.decreases-typed
 decreases-typed l = 12 * length (left l.r.now) + 0
@@ -62,8 +62,8 @@ decreases-typed l = 12 * length (left l.r.now) + 0
 abbrev pub decreases-under : goal.decreases-under
 decreases-under l = 12 * length (left l.r.now) + 9
 
-abbrev pub decreases-under-two : goal.decreases-under-two
-decreases-under-two l = 12 * length (left l.r.now) + 10
+abbrev pub decreases-under_two : goal.decreases-under_two
+decreases-under_two l = 12 * length (left l.r.now) + 10
 
 abbrev pub decreases-unpack : goal.decreases-unpack
 decreases-unpack l = 12 * length (left l.r.now) + 0

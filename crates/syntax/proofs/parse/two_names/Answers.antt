@@ -13,17 +13,17 @@ use Rattle.syntax.specs.Parses.{at, binders, under, AsUnder, no_names, one_name,
 use Rattle.syntax.proofs.Logic.{start, then, halt, then_part, halt_part, gave, built, tail, tail_part, ate, missed, expected, unexpected, called, uncalled, bound, unbound, counted, uncounted, typed_then, typed_halt, valued_then, valued_halt, names_then, names_halt, arm_then, arm_halt, arms_then, arms_halt, rest_is, like, passed_on, misfits, still, room_on, room_cell, less, added, handed_on, two_is, meaning_then, meaning_halt, closed_under, choice_is, first_is, room_name, room_names}
 use Rattle.syntax.proofs.parse.two_names.Goals as goal
 
-pub returns-in-err-x : goal.returns-in-err-x
-returns-in-err-x c = handed_on (TwoNames c.args.k.now (at c.args.r.now c.args.s.now c.args.a.now) _) _ c.from-residual.ensures.1 (record { found = λ h. unbound c.args.k.now (start c.args.k.now (at c.args.r.now c.args.s.now c.args.a.now) (two_names h)) c.in-err-x.ensures })
+pub returns-in_err-x : goal.returns-in_err-x
+returns-in_err-x c = handed_on (TwoNames c.args.k.now (at c.args.r.now c.args.s.now c.args.a.now) _) _ c.from_residual.ensures.1 (record { found = λ h. unbound c.args.k.now (start c.args.k.now (at c.args.r.now c.args.s.now c.args.a.now) (two_names h)) c.in_err-x.ensures })
 
-pub returns-in-err-expect : goal.returns-in-err-expect
-returns-in-err-expect c = handed_on (TwoNames c.args.k.now (at c.args.r.now c.args.s.now c.args.a.now) _) _ c.from-residual-in-err-expect.ensures.1 (record { found = λ h. unexpected c.args.k.now (bound c.args.k.now (start c.args.k.now (at c.args.r.now c.args.s.now c.args.a.now) (two_names h)) c.in-ok-x.ensures) c.in-err-expect.ensures })
+pub returns-in_err-expect : goal.returns-in_err-expect
+returns-in_err-expect c = handed_on (TwoNames c.args.k.now (at c.args.r.now c.args.s.now c.args.a.now) _) _ c.from_residual-in_err-expect.ensures.1 (record { found = λ h. unexpected c.args.k.now (bound c.args.k.now (start c.args.k.now (at c.args.r.now c.args.s.now c.args.a.now) (two_names h)) c.in_ok-x.ensures) c.in_err-expect.ensures })
 
-pub returns-in-err-y : goal.returns-in-err-y
-returns-in-err-y c = handed_on (TwoNames c.args.k.now (at c.args.r.now c.args.s.now c.args.a.now) _) _ c.from-residual-in-err-y.ensures.1 (record { found = λ h. unbound c.args.k.now (expected c.args.k.now (bound c.args.k.now (start c.args.k.now (at c.args.r.now c.args.s.now c.args.a.now) (two_names h)) c.in-ok-x.ensures) c.in-ok-expect.ensures) c.in-err-y.ensures })
+pub returns-in_err-y : goal.returns-in_err-y
+returns-in_err-y c = handed_on (TwoNames c.args.k.now (at c.args.r.now c.args.s.now c.args.a.now) _) _ c.from_residual-in_err-y.ensures.1 (record { found = λ h. unbound c.args.k.now (expected c.args.k.now (bound c.args.k.now (start c.args.k.now (at c.args.r.now c.args.s.now c.args.a.now) (two_names h)) c.in_ok-x.ensures) c.in_ok-expect.ensures) c.in_err-y.ensures })
 
-pub returns-in-err-expect-2 : goal.returns-in-err-expect-2
-returns-in-err-expect-2 c = handed_on (TwoNames c.args.k.now (at c.args.r.now c.args.s.now c.args.a.now) _) _ c.from-residual-in-err-expect-2.ensures.1 (record { found = λ h. unexpected c.args.k.now (bound c.args.k.now (expected c.args.k.now (bound c.args.k.now (start c.args.k.now (at c.args.r.now c.args.s.now c.args.a.now) (two_names h)) c.in-ok-x.ensures) c.in-ok-expect.ensures) c.in-ok-y.ensures) c.in-err-expect-2.ensures })
+pub returns-in_err-expect-2 : goal.returns-in_err-expect-2
+returns-in_err-expect-2 c = handed_on (TwoNames c.args.k.now (at c.args.r.now c.args.s.now c.args.a.now) _) _ c.from_residual-in_err-expect-2.ensures.1 (record { found = λ h. unexpected c.args.k.now (bound c.args.k.now (expected c.args.k.now (bound c.args.k.now (start c.args.k.now (at c.args.r.now c.args.s.now c.args.a.now) (two_names h)) c.in_ok-x.ensures) c.in_ok-expect.ensures) c.in_ok-y.ensures) c.in_err-expect-2.ensures })
 
 pub returns : goal.returns
-returns c = record { found = λ h. less (omega arith) (expected c.args.k.now (bound c.args.k.now (expected c.args.k.now (bound c.args.k.now (start c.args.k.now (at c.args.r.now c.args.s.now c.args.a.now) (two_names h)) c.in-ok-x.ensures) c.in-ok-expect.ensures) c.in-ok-y.ensures) c.in-ok-expect-2.ensures) }
+returns c = record { found = λ h. less (omega arith) (expected c.args.k.now (bound c.args.k.now (expected c.args.k.now (bound c.args.k.now (start c.args.k.now (at c.args.r.now c.args.s.now c.args.a.now) (two_names h)) c.in_ok-x.ensures) c.in_ok-expect.ensures) c.in_ok-y.ensures) c.in_ok-expect-2.ensures) }

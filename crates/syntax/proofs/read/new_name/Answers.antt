@@ -22,14 +22,14 @@ use Rattle.syntax.proofs.Ends.{finished, overran, letterless, known_already, new
 use Rattle.syntax.proofs.Logic.{start, then, halt, then_part, halt_part, gave, built, tail, tail_part, ate, missed, expected, unexpected, called, uncalled, bound, unbound, counted, uncounted, typed_then, typed_halt, valued_then, valued_halt, names_then, names_halt, arm_then, arm_halt, arms_then, arms_halt, rest_is, like, passed_on, misfits, still, room_on, room_cell, less, added, handed_on, two_is, meaning_then, meaning_halt, closed_under, choice_is, first_is, room_name, room_names}
 use Rattle.syntax.proofs.read.new_name.Goals as goal
 
-pub returns-in-err-x : goal.returns-in-err-x
-returns-in-err-x c = handed_on (NewName c.args.k.now (at c.args.r.now c.args.s.now c.args.a.now) _) _ c.from-residual.ensures.1 (record { found = λ q. unbound c.args.k.now (start c.args.k.now (at c.args.r.now c.args.s.now c.args.a.now) (new_name (entries c.args.k.now (at c.args.r.now c.args.s.now c.args.a.now)) (here c.args.k.now.end (words_left (at c.args.r.now c.args.s.now c.args.a.now))) q)) c.in-err-x.ensures })
+pub returns-in_err-x : goal.returns-in_err-x
+returns-in_err-x c = handed_on (NewName c.args.k.now (at c.args.r.now c.args.s.now c.args.a.now) _) _ c.from_residual.ensures.1 (record { found = λ q. unbound c.args.k.now (start c.args.k.now (at c.args.r.now c.args.s.now c.args.a.now) (new_name (entries c.args.k.now (at c.args.r.now c.args.s.now c.args.a.now)) (here c.args.k.now.end (words_left (at c.args.r.now c.args.s.now c.args.a.now))) q)) c.in_err-x.ensures })
 
-pub returns-then-not-begins-with-letter : goal.returns-then-not-begins-with-letter
-returns-then-not-begins-with-letter c = record { found = λ q. letterless c.args.k.now c.in-ok-x.x _ q c.here-p.result c.here-p.ensures (bound c.args.k.now (start c.args.k.now (at c.args.r.now c.args.s.now c.args.a.now) (new_name (entries c.args.k.now (at c.args.r.now c.args.s.now c.args.a.now)) (here c.args.k.now.end (words_left (at c.args.r.now c.args.s.now c.args.a.now))) q)) c.in-ok-x.ensures) (sym (c.if-not-begins-with-letter.ensures ∙ ap (λ b. is_ascii_alphabetic (get_or b 0 0)) (c.bytes-name.ensures ∙ ap (λ s. span_bytes s c.in-ok-x.x) (c.script.ensures ∙ c.in-ok-x.ensures.fits.same)))) }
+pub returns-then-not-begins_with_letter : goal.returns-then-not-begins_with_letter
+returns-then-not-begins_with_letter c = record { found = λ q. letterless c.args.k.now c.in_ok-x.x _ q c.here-p.result c.here-p.ensures (bound c.args.k.now (start c.args.k.now (at c.args.r.now c.args.s.now c.args.a.now) (new_name (entries c.args.k.now (at c.args.r.now c.args.s.now c.args.a.now)) (here c.args.k.now.end (words_left (at c.args.r.now c.args.s.now c.args.a.now))) q)) c.in_ok-x.ensures) (sym (c.if-not-begins_with_letter.ensures ∙ ap (λ b. is_ascii_alphabetic (get_or b 0 0)) (c.bytes-name.ensures ∙ ap (λ s. span_bytes s c.in_ok-x.x) (c.script.ensures ∙ c.in_ok-x.ensures.fits.same)))) }
 
 pub returns-in-Some : goal.returns-in-Some
-returns-in-Some c = record { found = λ q. known_already c.args.k.now c.in-ok-x.x _ q c.here-p.result _ c.here-p.ensures (bound c.args.k.now (start c.args.k.now (at c.args.r.now c.args.s.now c.args.a.now) (new_name (entries c.args.k.now (at c.args.r.now c.args.s.now c.args.a.now)) (here c.args.k.now.end (words_left (at c.args.r.now c.args.s.now c.args.a.now))) q)) c.in-ok-x.ensures) (sym (c.if-not-begins-with-letter.ensures ∙ ap (λ b. is_ascii_alphabetic (get_or b 0 0)) (c.bytes-name.ensures ∙ ap (λ s. span_bytes s c.in-ok-x.x) (c.script.ensures ∙ c.in-ok-x.ensures.fits.same)))) (sym (c.in-Some.ensures ∙ ap₂ (λ b s. find_entry b (entry_names s c.args.k.now.entries.now)) (c.bytes-name.ensures ∙ ap (λ s. span_bytes s c.in-ok-x.x) (c.script.ensures ∙ c.in-ok-x.ensures.fits.same)) (c.script-2.ensures ∙ c.in-ok-x.ensures.fits.same))) }
+returns-in-Some c = record { found = λ q. known_already c.args.k.now c.in_ok-x.x _ q c.here-p.result _ c.here-p.ensures (bound c.args.k.now (start c.args.k.now (at c.args.r.now c.args.s.now c.args.a.now) (new_name (entries c.args.k.now (at c.args.r.now c.args.s.now c.args.a.now)) (here c.args.k.now.end (words_left (at c.args.r.now c.args.s.now c.args.a.now))) q)) c.in_ok-x.ensures) (sym (c.if-not-begins_with_letter.ensures ∙ ap (λ b. is_ascii_alphabetic (get_or b 0 0)) (c.bytes-name.ensures ∙ ap (λ s. span_bytes s c.in_ok-x.x) (c.script.ensures ∙ c.in_ok-x.ensures.fits.same)))) (sym (c.in-Some.ensures ∙ ap₂ (λ b s. find_entry b (entry_names s c.args.k.now.entries.now)) (c.bytes-name.ensures ∙ ap (λ s. span_bytes s c.in_ok-x.x) (c.script.ensures ∙ c.in_ok-x.ensures.fits.same)) (c.script-2.ensures ∙ c.in_ok-x.ensures.fits.same))) }
 
 pub returns-in-None : goal.returns-in-None
-returns-in-None c = record { found = λ q. less (omega arith) (new_one c.args.k.now c.in-ok-x.x _ q (bound c.args.k.now (start c.args.k.now (at c.args.r.now c.args.s.now c.args.a.now) (new_name (entries c.args.k.now (at c.args.r.now c.args.s.now c.args.a.now)) (here c.args.k.now.end (words_left (at c.args.r.now c.args.s.now c.args.a.now))) q)) c.in-ok-x.ensures) (sym (c.if-not-begins-with-letter.ensures ∙ ap (λ b. is_ascii_alphabetic (get_or b 0 0)) (c.bytes-name.ensures ∙ ap (λ s. span_bytes s c.in-ok-x.x) (c.script.ensures ∙ c.in-ok-x.ensures.fits.same)))) (sym (c.in-None.ensures ∙ ap₂ (λ b s. find_entry b (entry_names s c.args.k.now.entries.now)) (c.bytes-name.ensures ∙ ap (λ s. span_bytes s c.in-ok-x.x) (c.script.ensures ∙ c.in-ok-x.ensures.fits.same)) (c.script-2.ensures ∙ c.in-ok-x.ensures.fits.same)))) }
+returns-in-None c = record { found = λ q. less (omega arith) (new_one c.args.k.now c.in_ok-x.x _ q (bound c.args.k.now (start c.args.k.now (at c.args.r.now c.args.s.now c.args.a.now) (new_name (entries c.args.k.now (at c.args.r.now c.args.s.now c.args.a.now)) (here c.args.k.now.end (words_left (at c.args.r.now c.args.s.now c.args.a.now))) q)) c.in_ok-x.ensures) (sym (c.if-not-begins_with_letter.ensures ∙ ap (λ b. is_ascii_alphabetic (get_or b 0 0)) (c.bytes-name.ensures ∙ ap (λ s. span_bytes s c.in_ok-x.x) (c.script.ensures ∙ c.in_ok-x.ensures.fits.same)))) (sym (c.in-None.ensures ∙ ap₂ (λ b s. find_entry b (entry_names s c.args.k.now.entries.now)) (c.bytes-name.ensures ∙ ap (λ s. span_bytes s c.in_ok-x.x) (c.script.ensures ∙ c.in_ok-x.ensures.fits.same)) (c.script-2.ensures ∙ c.in_ok-x.ensures.fits.same)))) }

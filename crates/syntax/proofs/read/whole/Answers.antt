@@ -22,11 +22,11 @@ use Rattle.syntax.proofs.Ends.{finished, overran, letterless, known_already, new
 use Rattle.syntax.proofs.Logic.{start, then, halt, then_part, halt_part, gave, built, tail, tail_part, ate, missed, expected, unexpected, called, uncalled, bound, unbound, counted, uncounted, typed_then, typed_halt, valued_then, valued_halt, names_then, names_halt, arm_then, arm_halt, arms_then, arms_halt, rest_is, like, passed_on, misfits, still, room_on, room_cell, less, added, handed_on, two_is, meaning_then, meaning_halt, closed_under, choice_is, first_is, room_name, room_names}
 use Rattle.syntax.proofs.read.whole.Goals as goal
 
-pub returns-in-err-e : goal.returns-in-err-e
-returns-in-err-e c = record { parsed = passed_on _ c.from-residual.ensures.1 (halt_part c.args.k.now no_names (start c.args.k.now (at c.args.r.now c.args.s.now c.args.a.now) _) c.in-err-e.ensures.found); over = handed_on (Over c.expr.new.r) _ c.from-residual.ensures.1 tt }
+pub returns-in_err-e : goal.returns-in_err-e
+returns-in_err-e c = record { parsed = passed_on _ c.from_residual.ensures.1 (halt_part c.args.k.now no_names (start c.args.k.now (at c.args.r.now c.args.s.now c.args.a.now) _) c.in_err-e.ensures.found); over = handed_on (Over c.expr.new.r) _ c.from_residual.ensures.1 tt }
 
-pub returns-in-err-finish : goal.returns-in-err-finish
-returns-in-err-finish c = record { parsed = passed_on _ c.from-residual-in-err-finish.ensures.1 (overran c.args.k.now (then_part c.args.k.now no_names (start c.args.k.now (at c.args.r.now c.args.s.now c.args.a.now) _) c.in-ok-e.ensures.found) c.in-err-finish.ensures); over = handed_on (Over c.expr.new.r) _ c.from-residual-in-err-finish.ensures.1 tt }
+pub returns-in_err-finish : goal.returns-in_err-finish
+returns-in_err-finish c = record { parsed = passed_on _ c.from_residual-in_err-finish.ensures.1 (overran c.args.k.now (then_part c.args.k.now no_names (start c.args.k.now (at c.args.r.now c.args.s.now c.args.a.now) _) c.in_ok-e.ensures.found) c.in_err-finish.ensures); over = handed_on (Over c.expr.new.r) _ c.from_residual-in_err-finish.ensures.1 tt }
 
 pub returns : goal.returns
-returns c = record { parsed = record { found = gave c.args.k.now (finished c.args.k.now (then_part c.args.k.now no_names (start c.args.k.now (at c.args.r.now c.args.s.now c.args.a.now) _) c.in-ok-e.ensures.found) c.in-ok-finish.ensures) refl c.in-ok-e.ensures.found.within (omega arith) }; over = nil_is _ c.in-ok-finish.ensures.found }
+returns c = record { parsed = record { found = gave c.args.k.now (finished c.args.k.now (then_part c.args.k.now no_names (start c.args.k.now (at c.args.r.now c.args.s.now c.args.a.now) _) c.in_ok-e.ensures.found) c.in_ok-finish.ensures) refl c.in_ok-e.ensures.found.within (omega arith) }; over = nil_is _ c.in_ok-finish.ensures.found }

@@ -6,13 +6,13 @@ use Rattle.printing.proofs.pen.Pen.names.Goals as goal
 pub returns-then-binders-eq0 : goal.returns-then-binders-eq0
 returns-then-binders-eq0 c = spelt (names_none c.args.binders c.args.d (omega arith)) (last (nothing (omega arith)))
 
-pub returns-in-err-at : goal.returns-in-err-at
-returns-in-err-at c = spelt (names_some c.args.binders c.args.d (omega arith)) (cut c.in-err-at.ensures c.from-residual.ensures.0)
+pub returns-in_err-at : goal.returns-in_err-at
+returns-in_err-at c = spelt (names_some c.args.binders c.args.d (omega arith)) (cut c.in_err-at.ensures c.from_residual.ensures.0)
 
-pub returns-in-err-at-2 : goal.returns-in-err-at-2
-returns-in-err-at-2 c =
-    spelt (names_two c.args.binders c.args.d (omega arith)) (then c.in-ok-at.ensures (cut c.in-err-at-2.ensures c.from-residual-in-err-at-2.ensures.0))
+pub returns-in_err-at-2 : goal.returns-in_err-at-2
+returns-in_err-at-2 c =
+    spelt (names_two c.args.binders c.args.d (omega arith)) (then c.in_ok-at.ensures (cut c.in_err-at-2.ensures c.from_residual-in_err-at-2.ensures.0))
 
 pub returns : goal.returns
 returns c =
-    spelt (names_two c.args.binders c.args.d (omega arith)) (then c.in-ok-at.ensures (then c.in-ok-at-2.ensures (last c.binder-2.ensures)))
+    spelt (names_two c.args.binders c.args.d (omega arith)) (then c.in_ok-at.ensures (then c.in_ok-at-2.ensures (last c.binder-2.ensures)))

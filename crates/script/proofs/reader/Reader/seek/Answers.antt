@@ -2,11 +2,11 @@ use Rattle.std.proofs.Common.{◌∙◌, arith}
 use Rattle.script.proofs.Views.{found_at, end_ahead, lexeme_ahead, gap_passed}
 use Rattle.script.proofs.reader.Reader.seek.Goals as goal
 
-pub returns-in-default : goal.returns-in-default
-returns-in-default c =
+pub returns-in_default : goal.returns-in_default
+returns-in_default c =
     record {
       script = c.loop-part.invariant.0;
-      sought = found_at _ _ _ _ _ c.loop-part.invariant.0 c.loop-part.invariant.1 c.loop-part.invariant.2 (end_ahead _ _ c.in-default.ensures);
+      sought = found_at _ _ _ _ _ c.loop-part.invariant.0 c.loop-part.invariant.1 c.loop-part.invariant.2 (end_ahead _ _ c.in_default.ensures);
     }
 
 pub returns-in-Some-kind : goal.returns-in-Some-kind
@@ -20,4 +20,4 @@ returns-in-Some-kind c =
 
 pub loop-part-preserved : goal.loop-part-preserved
 loop-part-preserved c =
-    (c.loop-part.invariant.0, c.loop-part.invariant.1 ∙ gap_passed _ _ c.in-Some.part c.in-Some.ensures c.in-default-kind.is, omega (arith, c.loop-part.invariant.2))
+    (c.loop-part.invariant.0, c.loop-part.invariant.1 ∙ gap_passed _ _ c.in-Some.part c.in-Some.ensures c.in_default-kind.is, omega (arith, c.loop-part.invariant.2))

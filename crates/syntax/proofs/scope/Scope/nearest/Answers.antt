@@ -5,22 +5,22 @@ use Rattle.syntax.proofs.scope.Scope.nearest.Goals as goal
 
 pub overflow-sub-result : goal.overflow-sub-result
 overflow-sub-result c =
-    omega (arith, found_below (λ y. named c.args.script.now c.args.name.now y.at y.len) (vec_items c.args.self.now.names) c.in-Some.i (c.in-Some.ensures ∙ ap (nearest _) c.as-slice.ensures.value), c.len.ensures, c.args.self.now.names.ok.0)
+    omega (arith, found_below (λ y. named c.args.script.now c.args.name.now y.at y.len) (vec_items c.args.self.now.names) c.in-Some.i (c.in-Some.ensures ∙ ap (nearest _) c.as_slice.ensures.value), c.len.ensures, c.args.self.now.names.ok.0)
 
 pub overflow-sub-result-2 : goal.overflow-sub-result-2
 overflow-sub-result-2 c =
-    omega (arith, found_below (λ y. named c.args.script.now c.args.name.now y.at y.len) (vec_items c.args.self.now.names) c.in-Some.i (c.in-Some.ensures ∙ ap (nearest _) c.as-slice.ensures.value), c.len.ensures, c.args.self.now.names.ok.0)
+    omega (arith, found_below (λ y. named c.args.script.now c.args.name.now y.at y.len) (vec_items c.args.self.now.names) c.in-Some.i (c.in-Some.ensures ∙ ap (nearest _) c.as_slice.ensures.value), c.len.ensures, c.args.self.now.names.ok.0)
 
-pub returns-in-default : goal.returns-in-default
-returns-in-default c =
+pub returns-in_default : goal.returns-in_default
+returns-in_default c =
     record {
-      value = found_none c.args.script.now c.args.name.now (vec_items c.args.self.now.names) (c.in-default.ensures ∙ ap (nearest _) c.as-slice.ensures.value);
+      value = found_none c.args.script.now c.args.name.now (vec_items c.args.self.now.names) (c.in_default.ensures ∙ ap (nearest _) c.as_slice.ensures.value);
       bound = tt;
     }
 
 pub returns : goal.returns
 returns c =
     record {
-      value = found_some c.args.script.now c.args.name.now (vec_items c.args.self.now.names) c.len.result c.in-Some.i (c.len.ensures ∙ c.args.self.now.names.ok.0) (c.in-Some.ensures ∙ ap (nearest _) c.as-slice.ensures.value);
+      value = found_some c.args.script.now c.args.name.now (vec_items c.args.self.now.names) c.len.result c.in-Some.i (c.len.ensures ∙ c.args.self.now.names.ok.0) (c.in-Some.ensures ∙ ap (nearest _) c.as_slice.ensures.value);
       bound = omega (arith, c.len.ensures, c.args.self.now.few);
     }

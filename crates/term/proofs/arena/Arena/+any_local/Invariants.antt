@@ -1,4 +1,4 @@
 use Rattle.term.proofs.arena.Arena.+any_local.Given as goal
 
-abbrev pub decreases-any-local : goal.decreases-any-local
-decreases-any-local l = l.id
+abbrev pub decreases-any_local : goal.decreases-any_local
+decreases-any_local l = l.id

@@ -16,7 +16,7 @@ returns c =
     let i : vec_items c.add-id.new.self.pool ≡ xs ++ Part c.args.node ∷ [] = d.items ∙ ap (λ p. vec_items p ++ Part c.args.node ∷ []) s.pool in
     let n = length-append (without c.args.mark c.args.top xs) (Part c.args.node ∷ []) in
     let m = length_without xs c.args.mark c.args.top c.requires.order l in
-    let z = c.in-ok-spend.ensures.made in
+    let z = c.in_ok-spend.ensures.made in
     record {
       kept = on_to s.kept d.kept;
       fair = omega arith;

@@ -2,8 +2,8 @@ use Rattle.std.proofs.Common.{refl, arith}
 use Rattle.term.proofs.Trees.{taken}
 use Rattle.term.proofs.arena.Arena.rewind.Goals as goal
 
-pub invariant-of-self : goal.invariant-of-self
-invariant-of-self c =
+pub invariant_of-self : goal.invariant_of-self
+invariant_of-self c =
     ((taken c.args.mark c.truncate.ensures.items c.args.self.now.sound).sound, (omega arith, (omega arith, (omega arith, tt))))
 
 pub returns : goal.returns
