@@ -45,7 +45,7 @@ pub fn same_name(a: &[u8], b: &[u8]) -> bool
 }
 
 fn has_name<R: Named>(script: &[u8], x: &R, name: &[u8]) -> bool
-    ensures { result ≡ named script.now name.now (place x.now) (size x.now) }
+    ensures { result ≡ named script.now name.now (R.place x.now) (R.size x.now) }
 {
     same_name(x.name().bytes(script), name)
 }
@@ -54,14 +54,14 @@ fn has_name<R: Named>(script: &[u8], x: &R, name: &[u8]) -> bool
 fn last_has_name<R: Named>(script: &[u8], records: &[R], n: usize, name: &[u8]) -> bool
     requires some { 0 < n }
     requires few { n ≤ length records.now }
-    ensures { StepsBack result (λ x. named script.now name.now (place x) (size x)) n records.now }
+    ensures { StepsBack result (λ x. named script.now name.now (R.place x) (R.size x)) n records.now }
 {
     has_name(script, &records[n - 1], name)
 }
 
 /// The nearest of the records with this name, which is the last of them.
 pub fn find<R: Named>(script: &[u8], records: &[R], name: &[u8]) -> Option<usize>
-    ensures { result ≡ nearest (λ x. named script.now name.now (place x) (size x)) records.now }
+    ensures { result ≡ nearest (λ x. named script.now name.now (R.place x) (R.size x)) records.now }
 {
     let mut n = records.len();
     while n > 0 {
