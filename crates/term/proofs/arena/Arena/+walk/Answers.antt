@@ -22,10 +22,10 @@ walk-requires t c =
     let h = c.args.self.now.room in
     (omega arith, (omega arith, omega arith))
 
-pub returns-in_ok-r : goal.returns-in_ok-r
-returns-in_ok-r t c =
-    let e = c.in_ok-e.ensures in
-    let l = c.in_ok-l.ensures in
+pub returns-in_ok-r-in-Match : goal.returns-in_ok-r-in-Match
+returns-in_ok-r-in-Match t c =
+    let e = c.in_ok-e-in-Match.ensures in
+    let l = c.in_ok-l-in-Match.ensures in
     let g = changed_kept c.args.change e.kept c.requires.given in
     let g' = changed_kept c.args.change l.kept (omega (arith, e.kept.long, c.requires.given)) in
     search rules

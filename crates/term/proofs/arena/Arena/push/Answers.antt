@@ -5,7 +5,7 @@ use Rattle.term.proofs.arena.Arena.push.Goals as goal
 pub invariant_of-self : goal.invariant_of-self
 invariant_of-self c =
     let p = pushed c.push_reserved.ensures.items c.args.self.now.pool.ok.0 c.args.self.now.sound c.requires.lower c.requires.small in
-    (p.sound, (omega arith, (omega arith, (omega arith, tt))))
+    record { sound = p.sound; room = omega arith; held = omega arith; few = omega arith }
 
 pub returns : goal.returns
 returns c =

@@ -4,7 +4,7 @@ use Rattle.term.proofs.arena.Arena.rewind.Goals as goal
 
 pub invariant_of-self : goal.invariant_of-self
 invariant_of-self c =
-    ((taken c.args.mark c.truncate.ensures.items c.args.self.now.sound).sound, (omega arith, (omega arith, (omega arith, tt))))
+    record { sound = (taken c.args.mark c.truncate.ensures.items c.args.self.now.sound).sound; room = omega arith; held = omega arith; few = omega arith }
 
 pub returns : goal.returns
 returns c =

@@ -10,7 +10,7 @@ invariant_of-self c =
     let y = c.in_ok-value.ensures in
     let z = c.take_out.ensures in
     let s = settles a c.copy.new.self d (vec_items c.take_out.new.list) c.args.mark c.len-top.result c.args.kind c.in_ok-kind.kind c.args.value c.in_ok-value.value c.len-top.ensures c.requires.mark c.requires.known c.requires.kind c.requires.value x y z.items in
-    (s.placed.sound, (omega (arith, d.room, z.len), (omega (arith, d.held, z.cap), (d.few, tt))))
+    record { sound = s.placed.sound; room = omega (arith, d.room, z.len); held = omega (arith, d.held, z.cap); few = d.few }
 
 pub returns : goal.returns
 returns c =
