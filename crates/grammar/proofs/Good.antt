@@ -1,7 +1,7 @@
 -- A name of a script that begins with a letter is good.
 use Rattle.std.proofs.Common.{◌≡◌, ℕ, zero, suc, pred, Bool, true, false, cond, not, ◌&&◌, eqb, leb, List, [], ◌∷◌, length, get_or, take, drop, Some, None, codes, Option, sym, refl, ap, ◌∙◌, subst, one-add, arith}
 use Rattle.std.specs.Char.{is_ascii_alphabetic}
-use Rattle.std.specs.List.{prefix_len, AllByRecursion as All}
+use Rattle.std.specs.List.{prefix_len, AllByRecursion}
 use Rattle.std.specs.Str.{bytes_eq}
 use Rattle.std.proofs.lemmas.Bool.{both_ways, cond-true, cond-false, cond_both, or_left, and_left, and_right, and_parts, leb-true}
 use Rattle.std.proofs.lemmas.Bool.Decides.{nat_tests}
@@ -21,7 +21,7 @@ abbrev NoName : Option Kind → Type 0
 NoName None = Unit {0}
 NoName (Some k) = is_name k ≡ false
 
-spelt_no_name : (rows : List (List ℕ × Kind)) (w : List ℕ) → All (λ (r : List ℕ × Kind). is_name r.1 ≡ false) rows → NoName (spelt rows w)
+spelt_no_name : (rows : List (List ℕ × Kind)) (w : List ℕ) → AllByRecursion (λ (r : List ℕ × Kind). is_name r.1 ≡ false) rows → NoName (spelt rows w)
 spelt_no_name [] w h = tt
 spelt_no_name (r ∷ rows) w h = cond_both (bytes_eq r.0 w) _ _ NoName (λ e. h.0) (λ e. spelt_no_name rows w h.1)
 
@@ -44,17 +44,17 @@ short_word : (t : Bool) → cond t Name NoToken ≡ Name → t ≡ true
 short_word true e = refl
 short_word false e = let z : ◌≡◌ {A = ℕ} 0 1 = cc in absurd (omega arith)
 
-pub word_good : (w : List ℕ) → All (λ b. word_byte b ≡ true) w → word_kind w ≡ Name → is_ascii_alphabetic (get_or w 0 0) ≡ true → GoodName w
+pub word_good : (w : List ℕ) → AllByRecursion (λ b. word_byte b ≡ true) w → word_kind w ≡ Name → is_ascii_alphabetic (get_or w 0 0) ≡ true → GoodName w
 word_good w h e l =
     let f = free_word (reserved w) (name_kind w) (reserved_no_name w) e in
     let t = short_word (leb (length w) 64 && not (bytes_eq w (codes "_"))) f.1 in
     record { letter_first = l; word_bytes = h; short = leb-true (length w) 64 (and_parts (leb (length w) 64) _ t).0; free = f.0 }
 
-leads : (p : ℕ → Bool) (bs : List ℕ) → All (λ b. p b ≡ true) (take (prefix_len p bs) bs)
+leads : (p : ℕ → Bool) (bs : List ℕ) → AllByRecursion (λ b. p b ≡ true) (take (prefix_len p bs) bs)
 leads p [] = tt
 leads p (b ∷ bs) =
-    cond_both (p b) _ _ (λ n. All (λ c. p c ≡ true) (take n (b ∷ bs)))
-    (λ e. subst (λ n. All (λ c. p c ≡ true) (take n (b ∷ bs))) (sym (one-add (prefix_len p bs))) (e, leads p bs))
+    cond_both (p b) _ _ (λ n. AllByRecursion (λ c. p c ≡ true) (take n (b ∷ bs)))
+    (λ e. subst (λ n. AllByRecursion (λ c. p c ≡ true) (take n (b ∷ bs))) (sym (one-add (prefix_len p bs))) (e, leads p bs))
     (λ e. tt)
 
 -- what begins with a letter is a word
@@ -77,7 +77,7 @@ piece_good f b bs l e =
 abbrev NamedGood : List ℕ → Lexeme → Type 0
 NamedGood s l = l.kind ≡ Name → is_ascii_alphabetic (get_or s l.at 0) ≡ true → GoodName (bytes_at s l.at l.len)
 
-with_good : (s : List ℕ) (o : Option Kind) (at n : ℕ) (ls : List Lexeme) → (o ≡ Some Name → is_ascii_alphabetic (get_or s at 0) ≡ true → GoodName (bytes_at s at n)) → All (NamedGood s) ls → All (NamedGood s) (with_lexeme o at n ls)
+with_good : (s : List ℕ) (o : Option Kind) (at n : ℕ) (ls : List Lexeme) → (o ≡ Some Name → is_ascii_alphabetic (get_or s at 0) ≡ true → GoodName (bytes_at s at n)) → AllByRecursion (NamedGood s) ls → AllByRecursion (NamedGood s) (with_lexeme o at n ls)
 with_good s None at n ls h k = k
 with_good s (Some x) at n ls h k = ((λ e. h (ap Some e)), k)
 
@@ -87,7 +87,7 @@ byte_at [] (suc at) b bs e = let z : ◌≡◌ {A = ℕ} 0 1 = cc in absurd (ome
 byte_at (x ∷ s) zero b bs e = cc
 byte_at (x ∷ s) (suc at) b bs e = byte_at s at b bs e
 
-parts_good : (s : List ℕ) (k : ℕ) (f : Bool) (bs : List ℕ) (at : ℕ) → bs ≡ drop at s → All (NamedGood s) (lexemes (parts k f bs at))
+parts_good : (s : List ℕ) (k : ℕ) (f : Bool) (bs : List ℕ) (at : ℕ) → bs ≡ drop at s → AllByRecursion (NamedGood s) (lexemes (parts k f bs at))
 parts_good s zero f [] at e = tt
 parts_good s (suc k) f [] at e = tt
 parts_good s zero f (b ∷ bs) at e =
@@ -97,6 +97,6 @@ parts_good s zero f (b ∷ bs) at e =
 parts_good s (suc k) f (b ∷ bs) at e = parts_good s k (eqb b 10) bs (suc at) (drop_more s at b bs e)
 
 -- each name among a script's lexemes
-pub names_good : (s : List ℕ) (at : ℕ) → All (λ (l : Lexeme). l.kind ≡ Name → is_ascii_alphabetic (get_or s l.at 0) ≡ true → GoodName (bytes_at s l.at l.len)) (lexemes_from s at)
+pub names_good : (s : List ℕ) (at : ℕ) → AllByRecursion (λ (l : Lexeme). l.kind ≡ Name → is_ascii_alphabetic (get_or s l.at 0) ≡ true → GoodName (bytes_at s l.at l.len)) (lexemes_from s at)
 unfolding lexemes_from parts_from
 names_good s at = parts_good s 0 (line_start s at) (drop at s) at refl

@@ -1,7 +1,7 @@
 -- The words of a text are those of its items.
 use Rattle.std.proofs.Common.{◌≡◌, ℕ, suc, pred, ◌+◌, Bool, true, false, eqb, List, [], ◌∷◌, ◌++◌, length, take, sym, refl, ap, ◌∙◌, subst, ap₂, append_assoc, arith, length-append}
 use lib.Seq.{take-append_seam}
-use Rattle.std.specs.List.{AllByRecursion as All}
+use Rattle.std.specs.List.{AllByRecursion}
 use Rattle.std.proofs.lemmas.Bool.{both_ways}
 use Rattle.script.specs.declared.token.Kind.{Kind}
 use Rattle.script.specs.declared.token.Piece.{Piece}
@@ -14,7 +14,7 @@ use Rattle.grammar.proofs.Back.{laid, reach}
 
 -- no byte ends a line
 abbrev pub InLine : List ℕ → Type 0
-InLine w = All (λ b. eqb b 10 ≡ false) w
+InLine w = AllByRecursion (λ b. eqb b 10 ≡ false) w
 
 -- the scanner finds the token x before r
 pub record Scans (x : Token) (r : List ℕ) : Type 0 where

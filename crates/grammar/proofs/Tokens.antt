@@ -3,7 +3,7 @@ use Rattle.std.proofs.Common.{◌≡◌, ℕ, suc, ◌^◌, ◌<◌, ◌≤◌, 
 use lib.Seq.{take-append_seam}
 use Rattle.std.specs.Str.Parse.{AllDigits, digits_value}
 use Rattle.std.specs.Char.{is_ascii_alphabetic, is_ascii_digit}
-use Rattle.std.specs.List.{prefix_len, AllByRecursion as All}
+use Rattle.std.specs.List.{prefix_len, AllByRecursion}
 use Rattle.std.specs.Str.{bytes_eq}
 use Rattle.std.proofs.lemmas.Bool.{both_ways, le-leb, cond-true, cond-false, or_left, or_right, and_from, and_left, and_right, and_parts}
 use Rattle.std.proofs.lemmas.Bool.Decides.{nat_tests}
@@ -19,7 +19,7 @@ use Rattle.grammar.specs.Text.{binder_name, quiet, GoodName}
 use Rattle.grammar.proofs.Pieces.{spelled}
 use Rattle.grammar.proofs.Scans.{InLine, Scans}
 
-leading_all : (p : ℕ → Bool) (w r : List ℕ) → All (λ b. p b ≡ true) w → prefix_len p r ≡ 0 → prefix_len p (w ++ r) ≡ length w
+leading_all : (p : ℕ → Bool) (w r : List ℕ) → AllByRecursion (λ b. p b ≡ true) w → prefix_len p r ≡ 0 → prefix_len p (w ++ r) ≡ length w
 leading_all p [] r h e = e
 leading_all p (b ∷ w) r h e = cond-true (p b) _ _ h.0 ∙ omega (arith, leading_all p w r h.1 e)
 
@@ -48,11 +48,11 @@ digit_no_letter b h = grind (arith, nat_tests)
 digit_word : (b : ℕ) → is_ascii_digit b ≡ true → word_byte b ≡ true
 digit_word b h = or_right (letter b) _ (or_left (is_ascii_digit b) _ h)
 
-word_line : (w : List ℕ) → All (λ c. word_byte c ≡ true) w → InLine w
+word_line : (w : List ℕ) → AllByRecursion (λ c. word_byte c ≡ true) w → InLine w
 word_line [] h = tt
 word_line (b ∷ w) h = (let e = h.0 in grind (arith, nat_tests), word_line w h.1)
 
-pub all_words : (ds : List ℕ) → All (λ c. is_ascii_digit c ≡ true) ds → All (λ c. word_byte c ≡ true) ds
+pub all_words : (ds : List ℕ) → AllByRecursion (λ c. is_ascii_digit c ≡ true) ds → AllByRecursion (λ c. word_byte c ≡ true) ds
 all_words [] h = tt
 all_words (c ∷ ds) h = (digit_word c h.0, all_words ds h.1)
 
@@ -64,14 +64,14 @@ module _ (b : ℕ) (bs : List ℕ) (p : Piece) (f : Bool) (a : Apart b) where
       ∙ h
 
 module _ (b : ℕ) (w r : List ℕ) (q : quiet r ≡ true) where
-  word_first : letter b ≡ true → All (λ c. word_byte c ≡ true) w → token_piece b (w ++ r) ≡ token (word_kind (b ∷ w)) (suc (length w))
+  word_first : letter b ≡ true → AllByRecursion (λ c. word_byte c ≡ true) w → token_piece b (w ++ r) ≡ token (word_kind (b ∷ w)) (suc (length w))
   unfolding token_piece
   word_first l h =
       cond-true (letter b) _ _ l
       ∙ ap (λ n. token (word_kind (take n (b ∷ (w ++ r)))) n) (leading_all word_byte (b ∷ w) r (or_left (letter b) _ l, h) (quiet_word r q))
       ∙ ap (λ v. token (word_kind v) (suc (length w))) (take-append_seam (b ∷ w) r)
 
-  number_first : is_ascii_digit b ≡ true → All (λ c. is_ascii_digit c ≡ true) w → token_piece b (w ++ r) ≡ token (number_kind (b ∷ w)) (suc (length w))
+  number_first : is_ascii_digit b ≡ true → AllByRecursion (λ c. is_ascii_digit c ≡ true) w → token_piece b (w ++ r) ≡ token (number_kind (b ∷ w)) (suc (length w))
   unfolding token_piece
   number_first l h =
       cond-false (letter b) _ _ (digit_no_letter b l)
@@ -79,7 +79,7 @@ module _ (b : ℕ) (w r : List ℕ) (q : quiet r ≡ true) where
       ∙ ap (λ n. token (number_kind (take n (b ∷ (w ++ r)))) n) (leading_all is_ascii_digit (b ∷ w) r (l, h) (quiet_digit r q))
       ∙ ap (λ v. token (number_kind v) (suc (length w))) (take-append_seam (b ∷ w) r)
 
-  word_scans : (x : Token) (k : Kind) → spelled x ≡ b ∷ w → letter b ≡ true → All (λ c. word_byte c ≡ true) w → word_kind (b ∷ w) ≡ k → as_token k (b ∷ w) ≡ x → Scans x r
+  word_scans : (x : Token) (k : Kind) → spelled x ≡ b ∷ w → letter b ≡ true → AllByRecursion (λ c. word_byte c ≡ true) w → word_kind (b ∷ w) ≡ k → as_token k (b ∷ w) ≡ x → Scans x r
   word_scans x k e l h i m =
       record {
         head = b;
@@ -91,7 +91,7 @@ module _ (b : ℕ) (w r : List ℕ) (q : quiet r ≡ true) where
         finds = λ f. found_first b (w ++ r) _ f (letter_apart b l) (word_first l h ∙ ap (λ j. token j (suc (length w))) i);
       }
 
-  number_scans : (n : ℕ) → decimal n ≡ b ∷ w → is_ascii_digit b ≡ true → All (λ c. is_ascii_digit c ≡ true) w → number_kind (b ∷ w) ≡ Number n → Scans (number n) r
+  number_scans : (n : ℕ) → decimal n ≡ b ∷ w → is_ascii_digit b ≡ true → AllByRecursion (λ c. is_ascii_digit c ≡ true) w → number_kind (b ∷ w) ≡ Number n → Scans (number n) r
   number_scans n e l h i =
       record {
         head = b;
@@ -103,7 +103,7 @@ module _ (b : ℕ) (w r : List ℕ) (q : quiet r ≡ true) where
         finds = λ f. found_first b (w ++ r) _ f (digit_apart b l) (number_first l h ∙ ap (λ j. token j (suc (length w))) i);
       }
 
-pub all_digits : (ds : List ℕ) → AllDigits 10 ds → All (λ c. is_ascii_digit c ≡ true) ds
+pub all_digits : (ds : List ℕ) → AllDigits 10 ds → AllByRecursion (λ c. is_ascii_digit c ≡ true) ds
 all_digits [] h = tt
 all_digits (c ∷ ds) h = (let k = digit_from_value c h.0 in and_from (leb 48 c) (leb c 57) (le-leb 48 c k.0) (le-leb c 57 k.1), all_digits ds h.1)
 
@@ -115,7 +115,7 @@ number_is (b ∷ c ∷ ds) n e l h =
     cond-true (not (eqb b 48) && leb (digits_value 10 (b ∷ c ∷ ds)) 65535) _ _ (and_from (not (eqb b 48)) _ (grind (arith, nat_tests)) (ap (λ v. leb v 65535) e ∙ le-leb n 65535 l))
     ∙ ap Number e
 
-number_by : (ds r : List ℕ) (n : ℕ) → quiet r ≡ true → decimal n ≡ ds → All (λ c. is_ascii_digit c ≡ true) ds → number_kind ds ≡ Number n → 0 < length ds → Scans (number n) r
+number_by : (ds r : List ℕ) (n : ℕ) → quiet r ≡ true → decimal n ≡ ds → AllByRecursion (λ c. is_ascii_digit c ≡ true) ds → number_kind ds ≡ Number n → 0 < length ds → Scans (number n) r
 number_by [] r n q e h k z = absurd (omega arith)
 number_by (b ∷ w) r n q e h k z = number_scans b w r q n e h.0 h.1 k
 
@@ -146,7 +146,7 @@ abbrev all_bytes : (ℕ → Bool) → List ℕ → Bool
 all_bytes p [] = true
 all_bytes p (b ∷ bs) = p b && all_bytes p bs
 
-all_from : (p : ℕ → Bool) (w : List ℕ) → all_bytes p w ≡ true → All (λ b. p b ≡ true) w
+all_from : (p : ℕ → Bool) (w : List ℕ) → all_bytes p w ≡ true → AllByRecursion (λ b. p b ≡ true) w
 all_from p [] h = tt
 all_from p (b ∷ w) h = ((and_parts (p b) _ h).0, all_from p w (and_parts (p b) _ h).1)
 

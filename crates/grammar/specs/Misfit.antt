@@ -1,7 +1,7 @@
 -- Refusal 3 by the grammar itself: it lies at the first word with which the words up to it can begin
 -- no statement.
 use Rattle.std.specs.Prelude.{◌≡◌, ℕ, ◌^◌, ◌<◌, ◌≤◌, List, [], ◌∷◌, ◌++◌, length}
-use Rattle.std.specs.List.{AllByRecursion as All}
+use Rattle.std.specs.List.{AllByRecursion}
 use Rattle.term.specs.Term.{Term}
 use Rattle.grammar.specs.Words.{Token, name, number, mark, first, no_token, Word}
 use Rattle.grammar.specs.Grammar.{Name, here, tree, refusal}
@@ -17,7 +17,7 @@ Writable (first w) = Unit {0}
 Writable no_token = ⊥
 
 abbrev pub AllWritable : List Word → Type 0
-AllWritable = All (λ (w : Word). Writable w.token)
+AllWritable = AllByRecursion (λ (w : Word). Writable w.token)
 
 -- with some words after them, that a script can have, they are read
 pub record CanBegin (entries : List Name) (end : ℕ) (ws : List Word) : Type 0 where

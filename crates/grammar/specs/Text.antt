@@ -1,7 +1,7 @@
 -- The printed text of a term.
 use Rattle.std.specs.Prelude.{◌≡◌, ℕ, zero, suc, ◌+◌, ◌-◌, ◌^◌, ◌<◌, ◌≤◌, Bool, true, not, List, [], ◌∷◌, ◌++◌, length, None, codes, decimal, slice_index, slice_index_or}
 use Rattle.std.specs.Char.{is_ascii_alphabetic}
-use Rattle.std.specs.List.{AllByRecursion as All}
+use Rattle.std.specs.List.{AllByRecursion}
 use Rattle.script.specs.Tokens.{reserved, word_byte}
 use Rattle.term.specs.declared.node.Unary.TheVariants.{Fun, Fst, Snd, Inl, Inr}
 use Rattle.term.specs.declared.node.Binary.TheVariants.{Pi, Sigma, Exists, Typed, App, Pair, Pack, Unpack, Sum, Ascribe, Let}
@@ -65,7 +65,7 @@ module _ (entries : List Name) where
 -- a letter, then letters, digits, `_` or `'`, at most 64 bytes, and no reserved word
 pub record GoodName (x : Name) : Type 0 where
   pub letter_first : is_ascii_alphabetic (slice_index x 0) ≡ true
-  pub word_bytes : All (λ b. word_byte b ≡ true) x
+  pub word_bytes : AllByRecursion (λ b. word_byte b ≡ true) x
   pub short : length x ≤ 64
   pub free : reserved x ≡ None
 

@@ -1,6 +1,6 @@
 -- The laws of every script.
 use Rattle.std.proofs.Common.{◌≡◌, ℕ, zero, suc, pred, ◌+◌, ◌-◌, ◌<◌, ◌≤◌, Bool, true, false, cond, eqb, List, [], ◌∷◌, ◌++◌, length, take, drop, sym, refl, ap, ◌∙◌, subst, ap₂, arith, rules}
-use Rattle.std.specs.List.{flat_map, AllByRecursion as All}
+use Rattle.std.specs.List.{flat_map, AllByRecursion}
 use Rattle.std.proofs.lemmas.List.{places, same_lists, take_all}
 use Rattle.std.proofs.lemmas.Bool.{cond_both}
 use Rattle.script.specs.declared.token.Part.{Part}
@@ -60,32 +60,32 @@ abbrev First : Run → Type 0
 First r = first_word r.first ≡ true
 
 abbrev Inside : Run → Type 0
-Inside r = All (λ l. first_word l ≡ false) r.rest
+Inside r = AllByRecursion (λ l. first_word l ≡ false) r.rest
 
-until_quiet : (ls : List Lexeme) → All (λ l. first_word l ≡ false) (until ls)
+until_quiet : (ls : List Lexeme) → AllByRecursion (λ l. first_word l ≡ false) (until ls)
 unfolding until
 until_quiet [] = tt
-until_quiet (l ∷ ls) = cond_both (first_word l) [] (l ∷ until ls) (All (λ m. first_word m ≡ false)) (λ e. tt) (λ e. (e, until_quiet ls))
+until_quiet (l ∷ ls) = cond_both (first_word l) [] (l ∷ until ls) (AllByRecursion (λ m. first_word m ≡ false)) (λ e. tt) (λ e. (e, until_quiet ls))
 
-next_first : (ls : List Lexeme) → All First (runs (from_next ls))
+next_first : (ls : List Lexeme) → AllByRecursion First (runs (from_next ls))
 unfolding from_next
 next_first [] = tt
 next_first (l ∷ ls) =
-    cond_both (first_word l) (l ∷ ls) (from_next ls) (λ ms. All First (runs ms)) (λ e. subst (All First) (sym (runs_first l ls)) (e, next_first ls)) (λ e. next_first ls)
+    cond_both (first_word l) (l ∷ ls) (from_next ls) (λ ms. AllByRecursion First (runs ms)) (λ e. subst (AllByRecursion First) (sym (runs_first l ls)) (e, next_first ls)) (λ e. next_first ls)
 
-next_inside : (ls : List Lexeme) → All Inside (runs (from_next ls))
+next_inside : (ls : List Lexeme) → AllByRecursion Inside (runs (from_next ls))
 unfolding from_next
 next_inside [] = tt
 next_inside (l ∷ ls) =
-    cond_both (first_word l) (l ∷ ls) (from_next ls) (λ ms. All Inside (runs ms)) (λ e. subst (All Inside) (sym (runs_first l ls)) (until_quiet ls, next_inside ls)) (λ e. next_inside ls)
+    cond_both (first_word l) (l ∷ ls) (from_next ls) (λ ms. AllByRecursion Inside (runs ms)) (λ e. subst (AllByRecursion Inside) (sym (runs_first l ls)) (until_quiet ls, next_inside ls)) (λ e. next_inside ls)
 
-tail_first : (ls : List Lexeme) → All First (tail (runs ls))
+tail_first : (ls : List Lexeme) → AllByRecursion First (tail (runs ls))
 tail_first [] = tt
-tail_first (l ∷ ls) = subst (λ rs. All First (tail rs)) (sym (runs_first l ls)) (next_first ls)
+tail_first (l ∷ ls) = subst (λ rs. AllByRecursion First (tail rs)) (sym (runs_first l ls)) (next_first ls)
 
-all_inside : (ls : List Lexeme) → All Inside (runs ls)
+all_inside : (ls : List Lexeme) → AllByRecursion Inside (runs ls)
 all_inside [] = tt
-all_inside (l ∷ ls) = subst (All Inside) (sym (runs_first l ls)) (until_quiet ls, next_inside ls)
+all_inside (l ∷ ls) = subst (AllByRecursion Inside) (sym (runs_first l ls)) (until_quiet ls, next_inside ls)
 
 pub cuts : (ls : List Lexeme) → Cuts ls
 cuts ls = record { whole = whole ls; first = tail_first ls; inside = all_inside ls }

@@ -2,7 +2,7 @@
 use Rattle.std.proofs.Common.{◌≡◌, ℕ, ◌+◌, ◌-◌, ◌*◌, ◌<◌, ◌≤◌, Bool, true, false, cond, not, ◌&&◌, eqb, leb, List, [], ◌∷◌, length, get_or, drop, Some, None, Option, sym, refl, ap, ◌∙◌, arith}
 use Rattle.std.specs.Char.{is_ascii_digit, digit_value}
 use Rattle.std.specs.Str.Parse.{digits_value, digits_value_after}
-use Rattle.std.specs.List.{AllByRecursion as All}
+use Rattle.std.specs.List.{AllByRecursion}
 use Rattle.std.proofs.lemmas.List.{at_drop_more, at_drop_all}
 use Rattle.std.proofs.lemmas.Bool.{cond-true, cond-false, and_from, and_left, and_right, le-leb, lt-leb, leb-true, leb-false}
 use Rattle.std.proofs.lemmas.Bool.Decides.{nat_tests}
@@ -43,7 +43,7 @@ more_by true k w e f = f (leb-true k 65535 e)
 more_by false k w e f = sym (cond-false _ _ _ (lt-leb (digits_value_after 10 k w) 65535 (omega (arith, grows k w, leb-false k 65535 e))))
 
 -- of digits, the value or none past 65,535
-value_is : (n : ℕ) (w : List ℕ) → All (λ b. is_ascii_digit b ≡ true) w → n ≤ 65535 → value_to n w ≡ limited (digits_value_after 10 n w)
+value_is : (n : ℕ) (w : List ℕ) → AllByRecursion (λ b. is_ascii_digit b ≡ true) w → n ≤ 65535 → value_to n w ≡ limited (digits_value_after 10 n w)
 value_is n [] d h = sym (cond-true _ _ _ (le-leb _ _ h))
 value_is n (b ∷ w) d h =
     ap (λ t. cond (t && leb (n * 10 + (b - 48)) 65535) (value_to (n * 10 + (b - 48)) w) None) d.0
@@ -58,7 +58,7 @@ zero_by : (z t : Bool) (x y : Kind) → cond z y (cond t x y) ≡ cond (not z &&
 zero_by true t x y = refl
 zero_by false t x y = refl
 
-pub judged_is : (w : List ℕ) → All (λ b. is_ascii_digit b ≡ true) w → judged_number w ≡ number_kind w
+pub judged_is : (w : List ℕ) → AllByRecursion (λ b. is_ascii_digit b ≡ true) w → judged_number w ≡ number_kind w
 judged_is [] d = refl
 judged_is (b ∷ []) d =
     ap number_in (value_is 0 (b ∷ []) d (omega arith)) ∙ in_by (leb (digits_value 10 (b ∷ [])) 65535) _

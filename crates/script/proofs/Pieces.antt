@@ -1,7 +1,7 @@
 -- Pieces at the front of bytes.
 use Rattle.std.proofs.Common.{◌≡◌, ℕ, ◌<◌, Bool, true, false, cond, ◌&&◌, List, [], ◌∷◌, length, get_or, take, Some, None, codes, Option, sym, ap, ◌∙◌, subst, ap₂, one-add, arith}
 use Rattle.std.specs.Char.{is_ascii_digit}
-use Rattle.std.specs.List.{prefix_len, AllByRecursion as All}
+use Rattle.std.specs.List.{prefix_len, AllByRecursion}
 use Rattle.std.proofs.lemmas.Bool.{cond-true, cond-false, cond_both}
 use Rattle.script.specs.declared.token.Kind.{Kind}
 use Rattle.script.specs.declared.token.Piece.{Piece}
@@ -10,11 +10,11 @@ use Rattle.script.specs.Scan.{judged_number, token_of}
 use Rattle.script.proofs.Numbers.{judged_is}
 
 -- the bytes that lead are all of the class
-leads : (p : ℕ → Bool) (bs : List ℕ) → All (λ b. p b ≡ true) (take (prefix_len p bs) bs)
+leads : (p : ℕ → Bool) (bs : List ℕ) → AllByRecursion (λ b. p b ≡ true) (take (prefix_len p bs) bs)
 leads p [] = tt
 leads p (b ∷ bs) =
-    cond_both (p b) _ _ (λ n. All (λ c. p c ≡ true) (take n (b ∷ bs)))
-    (λ e. subst (λ n. All (λ c. p c ≡ true) (take n (b ∷ bs))) (sym (one-add (prefix_len p bs))) (e, leads p bs))
+    cond_both (p b) _ _ (λ n. AllByRecursion (λ c. p c ≡ true) (take n (b ∷ bs)))
+    (λ e. subst (λ n. AllByRecursion (λ c. p c ≡ true) (take n (b ∷ bs))) (sym (one-add (prefix_len p bs))) (e, leads p bs))
     (λ e. tt)
 
 pub word_first : (bs : List ℕ) (k : Kind) (n : ℕ) → 0 < length bs → letter (get_or bs 0 0) ≡ true → n ≡ prefix_len word_byte bs → k ≡ word_kind (take n bs) → token k n ≡ token_of bs

@@ -1,7 +1,7 @@
 -- A step of the scanner over the parts of a script.
 use Rattle.std.proofs.Common.{◌≡◌, ℕ, zero, suc, pred, ◌+◌, ◌-◌, ◌<◌, ◌≤◌, Bool, true, false, cond, ◌&&◌, ◌||◌, eqb, List, [], ◌∷◌, length, get_or, drop, Some, None, codes, Option, sym, refl, ap, ◌∙◌, subst, ap₂, arith, length-drop}
 use Rattle.std.specs.Char.{is_ascii_digit}
-use Rattle.std.specs.List.{prefix_len, AllByRecursion as All}
+use Rattle.std.specs.List.{prefix_len, AllByRecursion}
 use Rattle.std.proofs.lemmas.List.{get_or-drop, drop-drop}
 use Rattle.std.proofs.lemmas.List.Sums.{prefix_len-le-length}
 use Rattle.std.proofs.lemmas.Bool.{both_ways, cond_both, or_left, and_parts, eqb-true, ne_eqb}
@@ -24,7 +24,7 @@ begins_fits (x ∷ w) [] e = absurd (both_ways false refl e)
 begins_fits (x ∷ w) (b ∷ bs) e = omega (arith, begins_fits w bs (and_parts (eqb x b) _ e).1)
 
 -- a table's symbols take a byte each
-symbol_fits : (ws : List (List ℕ × Kind)) (b : ℕ) (bs : List ℕ) (p : Piece) → All (λ (w : List ℕ × Kind). 0 < length w.0) ws → Fits (length bs) p → Fits (length bs) (piece_or (symbol ws (b ∷ bs)) p)
+symbol_fits : (ws : List (List ℕ × Kind)) (b : ℕ) (bs : List ℕ) (p : Piece) → AllByRecursion (λ (w : List ℕ × Kind). 0 < length w.0) ws → Fits (length bs) p → Fits (length bs) (piece_or (symbol ws (b ∷ bs)) p)
 symbol_fits [] b bs p h k = k
 symbol_fits (w ∷ ws) b bs p h k =
     cond_both (begins_with w.0 (b ∷ bs)) _ _ (λ o. Fits (length bs) (piece_or o p))

@@ -1,6 +1,6 @@
 -- What holds of every script.
 use Rattle.std.specs.Prelude.{◌≡◌, ℕ, ◌+◌, ◌<◌, true, false, List, [], ◌∷◌, length, take, drop}
-use Rattle.std.specs.List.{flat_map, AllByRecursion as All}
+use Rattle.std.specs.List.{flat_map, AllByRecursion}
 use Rattle.script.specs.declared.token.Part.{Part}
 use Rattle.script.specs.declared.token.Lexeme.{Lexeme}
 use Rattle.script.specs.Parts.{parts_from, lexemes_from}
@@ -27,5 +27,5 @@ tail (x ∷ xs) = xs
 -- one of the seven words, and none with such a word further on
 pub record Cuts (ls : List Lexeme) : Type 0 where
   pub whole : flat_map all_of (runs ls) ≡ ls
-  pub first : All (λ (r : Run). first_word r.first ≡ true) (tail (runs ls))
-  pub inside : All (λ (r : Run). All (λ l. first_word l ≡ false) r.rest) (runs ls)
+  pub first : AllByRecursion (λ (r : Run). first_word r.first ≡ true) (tail (runs ls))
+  pub inside : AllByRecursion (λ (r : Run). AllByRecursion (λ l. first_word l ≡ false) r.rest) (runs ls)
