@@ -12,12 +12,12 @@ returns-in-None-value c es =
     some _ _ c.in-Some.ensures.value
     (none _ (ap (λ v. bound v (term c.args.arena.now)) c.in-None-value.is) (concluded refl c.requires.id))
 
-pub returns-in_err-lift : goal.returns-in_err-lift
-returns-in_err-lift c es =
+pub returns-in_err-lift-in-Some-value : goal.returns-in_err-lift-in-Some-value
+returns-in_err-lift-in-Some-value c es =
     some _ _ c.in-Some.ensures.value
-    (some _ _ (ap (λ v. bound v (term c.args.arena.now)) c.in-Some-value.is) (lacks c.from_residual.ensures.1 c.in_err-lift.ensures))
+    (some _ _ (ap (λ v. bound v (term c.args.arena.now)) c.in-Some-value.is) (lacks c.from_residual.ensures.1 c.in_err-lift-in-Some-value.ensures))
 
-pub returns-in_ok-lift : goal.returns-in_ok-lift
-returns-in_ok-lift c es =
+pub returns-in_ok-lift-in-Some-value : goal.returns-in_ok-lift-in-Some-value
+returns-in_ok-lift-in-Some-value c es =
     some _ _ c.in-Some.ensures.value
-    (some _ _ (ap (λ v. bound v (term c.args.arena.now)) c.in-Some-value.is) (built c.in_ok-lift.ensures))
+    (some _ _ (ap (λ v. bound v (term c.args.arena.now)) c.in-Some-value.is) (built c.in_ok-lift-in-Some-value.ensures))
