@@ -31,52 +31,52 @@ text-returns-in-Entry t c =
     spelt (entry_is _ _ c.in-Entry.ensures c.name.result.now c.name.ensures)
     (last c.put.ensures)
 
-pub text-returns-in_err-at : goal.text-returns-in_err-at
-text-returns-in_err-at t c =
+pub text-returns-in_err-at-in-One : goal.text-returns-in_err-at-in-One
+text-returns-in_err-at-in-One t c =
     spelt (one_is _ _ c.in-One.ensures (piece_of c.one_lead.result) c.one_lead.ensures.is)
-    (cut c.in_err-at.ensures c.from_residual.ensures.0)
+    (cut c.in_err-at-in-One.ensures c.from_residual.ensures.0)
 
-pub text-returns-in_ok-at : goal.text-returns-in_ok-at
-text-returns-in_ok-at t c =
+pub text-returns-in_ok-at-in-One : goal.text-returns-in_ok-at-in-One
+text-returns-in_ok-at-in-One t c =
     spelt (one_is _ _ c.in-One.ensures (piece_of c.one_lead.result) c.one_lead.ensures.is)
-    (then c.in_ok-at.ensures (last c.put-in-One.ensures))
+    (then c.in_ok-at-in-One.ensures (last c.put-in-One.ensures))
 
-pub text-returns-in_err-at-2 : goal.text-returns-in_err-at-2
-text-returns-in_err-at-2 t c =
+pub text-returns-in_err-at-in-Two : goal.text-returns-in_err-at-in-Two
+text-returns-in_err-at-in-Two t c =
     spelt (two_is _ _ c.in-Two.ensures (piece_of c.first_lead.result) (second_piece c.in-Two.form) (two_closes c.in-Two.form) c.first_lead.ensures.is refl refl)
-    (cut c.in_err-at-2.ensures c.from_residual-in_err-at-2.ensures.0)
+    (cut c.in_err-at-in-Two.ensures c.from_residual-in_err-at-in-Two.ensures.0)
 
-pub text-returns-in_err-at-3 : goal.text-returns-in_err-at-3
-text-returns-in_err-at-3 t c =
+pub text-returns-in_err-at-in-Two-2 : goal.text-returns-in_err-at-in-Two-2
+text-returns-in_err-at-in-Two-2 t c =
     spelt (two_is _ _ c.in-Two.ensures (piece_of c.first_lead.result) (piece_of c.second_lead.result) (two_closes c.in-Two.form) c.first_lead.ensures.is c.second_lead.ensures.is refl)
-    (then c.in_ok-at-2.ensures (cut c.in_err-at-3.ensures c.from_residual-in_err-at-3.ensures.0))
+    (then c.in_ok-at-in-Two.ensures (cut c.in_err-at-in-Two-2.ensures c.from_residual-in_err-at-in-Two-2.ensures.0))
 
-pub text-returns-in_ok-at-3 : goal.text-returns-in_ok-at-3
-text-returns-in_ok-at-3 t c =
+pub text-returns-in_ok-at-in-Two-2 : goal.text-returns-in_ok-at-in-Two-2
+text-returns-in_ok-at-in-Two-2 t c =
     spelt (two_is _ _ c.in-Two.ensures (piece_of c.first_lead.result) (piece_of c.second_lead.result) c.two_closes.result.now c.first_lead.ensures.is c.second_lead.ensures.is c.two_closes.ensures)
-    (then c.in_ok-at-2.ensures (then c.in_ok-at-3.ensures (last c.put-in-Two.ensures)))
+    (then c.in_ok-at-in-Two.ensures (then c.in_ok-at-in-Two-2.ensures (last c.put-in-Two.ensures)))
 
-pub text-returns-in_err-at-4 : goal.text-returns-in_err-at-4
-text-returns-in_err-at-4 t c =
+pub text-returns-in_err-at-in-Match : goal.text-returns-in_err-at-in-Match
+text-returns-in_err-at-in-Match t c =
     spelt (match_is _ _ c.in-Match.ensures (piece_of c.match_lead.result) (arm_piece arm.Inl) (arm_piece arm.Inr) c.match_lead.ensures.is refl refl)
-    (cut c.in_err-at-4.ensures c.from_residual-in_err-at-4.ensures.0)
+    (cut c.in_err-at-in-Match.ensures c.from_residual-in_err-at-in-Match.ensures.0)
 
-pub text-returns-in_err-at-5 : goal.text-returns-in_err-at-5
-text-returns-in_err-at-5 t c =
+pub text-returns-in_err-at-in-Match-2 : goal.text-returns-in_err-at-in-Match-2
+text-returns-in_err-at-in-Match-2 t c =
     spelt (match_is _ _ c.in-Match.ensures (piece_of c.match_lead.result) (arm_piece arm.Inl) (arm_piece arm.Inr) c.match_lead.ensures.is refl refl)
-    (then c.in_ok-at-4.ensures (cut c.in_err-at-5.ensures c.from_residual-in_err-at-5.ensures.0))
+    (then c.in_ok-at-in-Match.ensures (cut c.in_err-at-in-Match-2.ensures c.from_residual-in_err-at-in-Match-2.ensures.0))
 
-pub text-returns-in_err-at-6 : goal.text-returns-in_err-at-6
-text-returns-in_err-at-6 t c =
+pub text-returns-in_err-at-in-Match-3 : goal.text-returns-in_err-at-in-Match-3
+text-returns-in_err-at-in-Match-3 t c =
     spelt (match_is _ _ c.in-Match.ensures (piece_of c.match_lead.result) (piece_of c.arm_lead.result) (arm_piece arm.Inr) c.match_lead.ensures.is c.arm_lead.ensures.is refl)
-    (then c.in_ok-at-4.ensures (then c.in_ok-at-5.ensures (cut c.in_err-at-6.ensures c.from_residual-in_err-at-6.ensures.0)))
+    (then c.in_ok-at-in-Match.ensures (then c.in_ok-at-in-Match-2.ensures (cut c.in_err-at-in-Match-3.ensures c.from_residual-in_err-at-in-Match-3.ensures.0)))
 
-pub text-returns-in_err-at-7 : goal.text-returns-in_err-at-7
-text-returns-in_err-at-7 t c =
+pub text-returns-in_err-at-in-Match-4 : goal.text-returns-in_err-at-in-Match-4
+text-returns-in_err-at-in-Match-4 t c =
     spelt (match_is _ _ c.in-Match.ensures (piece_of c.match_lead.result) (piece_of c.arm_lead.result) (piece_of c.arm_lead-in-Match.result) c.match_lead.ensures.is c.arm_lead.ensures.is c.arm_lead-in-Match.ensures.is)
-    (then c.in_ok-at-4.ensures (then c.in_ok-at-5.ensures (then c.in_ok-at-6.ensures (cut c.in_err-at-7.ensures c.from_residual-in_err-at-7.ensures.0))))
+    (then c.in_ok-at-in-Match.ensures (then c.in_ok-at-in-Match-2.ensures (then c.in_ok-at-in-Match-3.ensures (cut c.in_err-at-in-Match-4.ensures c.from_residual-in_err-at-in-Match-4.ensures.0))))
 
-pub text-returns-in_ok-at-7 : goal.text-returns-in_ok-at-7
-text-returns-in_ok-at-7 t c =
+pub text-returns-in_ok-at-in-Match-4 : goal.text-returns-in_ok-at-in-Match-4
+text-returns-in_ok-at-in-Match-4 t c =
     spelt (match_is _ _ c.in-Match.ensures (piece_of c.match_lead.result) (piece_of c.arm_lead.result) (piece_of c.arm_lead-in-Match.result) c.match_lead.ensures.is c.arm_lead.ensures.is c.arm_lead-in-Match.ensures.is)
-    (then c.in_ok-at-4.ensures (then c.in_ok-at-5.ensures (then c.in_ok-at-6.ensures (then c.in_ok-at-7.ensures (last c.put-in-Match-2.ensures)))))
+    (then c.in_ok-at-in-Match.ensures (then c.in_ok-at-in-Match-2.ensures (then c.in_ok-at-in-Match-3.ensures (then c.in_ok-at-in-Match-4.ensures (last c.put-in-Match-2.ensures)))))
