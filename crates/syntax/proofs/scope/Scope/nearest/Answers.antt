@@ -3,12 +3,12 @@ use Rattle.script.specs.Names.{nearest, named}
 use Rattle.syntax.proofs.Scopes.{found_none, found_some, found_below}
 use Rattle.syntax.proofs.scope.Scope.nearest.Goals as goal
 
-pub overflow-sub-result : goal.overflow-sub-result
-overflow-sub-result c =
+pub overflow_sub-result : goal.overflow_sub-result
+overflow_sub-result c =
     omega (arith, found_below (λ y. named c.args.script.now c.args.name.now y.at y.len) (vec_items c.args.self.now.names) c.in-Some.i (c.in-Some.ensures ∙ ap (nearest _) c.as_slice.ensures.value), c.len.ensures, c.args.self.now.names.ok.0)
 
-pub overflow-sub-result-2 : goal.overflow-sub-result-2
-overflow-sub-result-2 c =
+pub overflow_sub-result-2 : goal.overflow_sub-result-2
+overflow_sub-result-2 c =
     omega (arith, found_below (λ y. named c.args.script.now c.args.name.now y.at y.len) (vec_items c.args.self.now.names) c.in-Some.i (c.in-Some.ensures ∙ ap (nearest _) c.as_slice.ensures.value), c.len.ensures, c.args.self.now.names.ok.0)
 
 pub returns-in_default : goal.returns-in_default
