@@ -140,11 +140,11 @@ bind-returns-in_err-t g t c = then (premised c.in_ok-q.ensures) (then (again (λ
 pub bind-returns : goal.bind-returns
 bind-returns g t c = then (premised c.in_ok-q.ensures) (then (again (λ Γ E. premise (gives c.args.p (bindings Γ) E)) c.args.es.now c.args.o c.args.a c.in_ok-q.ensures.kept c.requires.rows c.requires.ctx c.requires.a (formed c.in_ok-v.ensures)) (enters c.in_ok-i.ensures (then (placed (λ Γ E. premise (has Γ E)) c.args.es.now (Some c.in_ok-i.i) c.args.b (on_to (on_to c.in_ok-q.ensures.kept c.in_ok-v.ensures.kept) c.in_ok-i.ensures.kept) c.requires.rows c.requires.b (c.in_ok-i.ensures.made.1 ∙ ap₂ (λ B Γ. B ∷ Γ) (bound_of (Some (term c.norm.new.arena c.in_ok-v.v)) (c.in_ok-v.ensures.kept.trees c.in_ok-q.q c.in_ok-q.ensures.within)) ((on_to c.in_ok-q.ensures.kept c.in_ok-v.ensures.kept).chains c.args.o c.requires.ctx)) (premised c.in_ok-t.ensures)) (last (lowers c.lowered.ensures)))))
 
-pub ascribe-returns-in_err-check : goal.ascribe-returns-in_err-check
-ascribe-returns-in_err-check g t c = some _ _ (sym c.in-Some.ensures) (halt c.from_residual.ensures.1 (premised c.in_err-check.ensures))
+pub ascribe-returns-in_err-check-in-Some : goal.ascribe-returns-in_err-check-in-Some
+ascribe-returns-in_err-check-in-Some g t c = some _ _ (sym c.in-Some.ensures) (halt c.from_residual.ensures.1 (premised c.in_err-check-in-Some.ensures))
 
-pub ascribe-returns-in_ok-check : goal.ascribe-returns-in_ok-check
-ascribe-returns-in_ok-check g t c = some _ _ (sym c.in-Some.ensures) (then (premised c.in_ok-check.ensures) (concluded (sym (c.in_ok-check.ensures.kept.trees c.args.b c.requires.b)) (omega (arith, c.in_ok-check.ensures.kept.long, c.requires.b))))
+pub ascribe-returns-in_ok-check-in-Some : goal.ascribe-returns-in_ok-check-in-Some
+ascribe-returns-in_ok-check-in-Some g t c = some _ _ (sym c.in-Some.ensures) (then (premised c.in_ok-check-in-Some.ensures) (concluded (sym (c.in_ok-check-in-Some.ensures.kept.trees c.args.b c.requires.b)) (omega (arith, c.in_ok-check-in-Some.ensures.kept.long, c.requires.b))))
 
 pub ascribe-returns-in-None : goal.ascribe-returns-in-None
 ascribe-returns-in-None g t c = none _ (sym c.in-None.ensures) c.ascribed.ensures
@@ -286,30 +286,30 @@ infer-returns-in-Some g t c =
     let q = no_rule_at (rows c.args.arena.now c.args.es.now) (ctx c.args.arena.now c.args.o) (term c.args.arena.now c.args.id) (sym c.in-Some.ensures) in
     has_unruled q.0 q.1 c.refused.ensures
 
-pub infer-returns-in_err-spend : goal.infer-returns-in_err-spend
-infer-returns-in_err-spend g t c = has_broke c.from_residual.ensures.1 (rule_at (rows c.args.arena.now c.args.es.now) (ctx c.args.arena.now c.args.o) (term c.args.arena.now c.args.id) (sym c.in-None.ensures)).1 c.in_err-spend.ensures
+pub infer-returns-in_err-spend-in-None : goal.infer-returns-in_err-spend-in-None
+infer-returns-in_err-spend-in-None g t c = has_broke c.from_residual.ensures.1 (rule_at (rows c.args.arena.now c.args.es.now) (ctx c.args.arena.now c.args.o) (term c.args.arena.now c.args.id) (sym c.in-None.ensures)).1 c.in_err-spend-in-None.ensures
 
 pub infer-returns-in-Sort : goal.infer-returns-in-Sort
-infer-returns-in-Sort g t c = has_ruled c.args.es.now c.args.o c.args.id c.in_ok-spend.ensures c.requires.rows c.requires.ctx c.requires.id (ap place c.in-Sort.ensures.is) (ap (has_rule (rows c.spend.new.self c.args.es.now) (ctx c.spend.new.self c.args.o)) c.in-Sort.ensures.is) (c.above.ensures (rows c.spend.new.self c.args.es.now))
+infer-returns-in-Sort g t c = has_ruled c.args.es.now c.args.o c.args.id c.in_ok-spend-in-None.ensures c.requires.rows c.requires.ctx c.requires.id (ap place c.in-Sort.ensures.is) (ap (has_rule (rows c.spend.new.self c.args.es.now) (ctx c.spend.new.self c.args.o)) c.in-Sort.ensures.is) (c.above.ensures (rows c.spend.new.self c.args.es.now))
 
 pub infer-returns-in-Local : goal.infer-returns-in-Local
-infer-returns-in-Local g t c = has_ruled c.args.es.now c.args.o c.args.id c.in_ok-spend.ensures c.requires.rows c.requires.ctx c.requires.id (ap place c.in-Local.ensures.is) (ap (has_rule (rows c.spend.new.self c.args.es.now) (ctx c.spend.new.self c.args.o)) c.in-Local.ensures.is) (c.local.ensures _ (rows c.spend.new.self c.args.es.now))
+infer-returns-in-Local g t c = has_ruled c.args.es.now c.args.o c.args.id c.in_ok-spend-in-None.ensures c.requires.rows c.requires.ctx c.requires.id (ap place c.in-Local.ensures.is) (ap (has_rule (rows c.spend.new.self c.args.es.now) (ctx c.spend.new.self c.args.o)) c.in-Local.ensures.is) (c.local.ensures _ (rows c.spend.new.self c.args.es.now))
 
 pub infer-returns-in-Entry : goal.infer-returns-in-Entry
-infer-returns-in-Entry g t c = has_ruled c.args.es.now c.args.o c.args.id c.in_ok-spend.ensures c.requires.rows c.requires.ctx c.requires.id (ap place c.in-Entry.ensures.is) (ap (has_rule (rows c.spend.new.self c.args.es.now) (ctx c.spend.new.self c.args.o)) c.in-Entry.ensures.is) (c.entry.ensures _)
+infer-returns-in-Entry g t c = has_ruled c.args.es.now c.args.o c.args.id c.in_ok-spend-in-None.ensures c.requires.rows c.requires.ctx c.requires.id (ap place c.in-Entry.ensures.is) (ap (has_rule (rows c.spend.new.self c.args.es.now) (ctx c.spend.new.self c.args.o)) c.in-Entry.ensures.is) (c.entry.ensures _)
 
 pub infer-returns-in-Match : goal.infer-returns-in-Match
-infer-returns-in-Match g t c = has_ruled c.args.es.now c.args.o c.args.id c.in_ok-spend.ensures c.requires.rows c.requires.ctx c.requires.id (ap place c.in-Match.ensures.is) (ap (has_rule (rows c.spend.new.self c.args.es.now) (ctx c.spend.new.self c.args.o)) c.in-Match.ensures.is) c.choose.ensures
+infer-returns-in-Match g t c = has_ruled c.args.es.now c.args.o c.args.id c.in_ok-spend-in-None.ensures c.requires.rows c.requires.ctx c.requires.id (ap place c.in-Match.ensures.is) (ap (has_rule (rows c.spend.new.self c.args.es.now) (ctx c.spend.new.self c.args.o)) c.in-Match.ensures.is) c.choose.ensures
 
 pub infer-returns-in-One : goal.infer-returns-in-One
 infer-returns-in-One g t c =
-    let q = rule_at (rows c.spend.new.self c.args.es.now) (ctx c.spend.new.self c.args.o) (term c.spend.new.self c.args.id) (ap unruled (c.in_ok-spend.ensures.kept.trees c.args.id c.requires.id) ∙ sym c.in-None.ensures) in
-    has_ruled c.args.es.now c.args.o c.args.id c.in_ok-spend.ensures c.requires.rows c.requires.ctx c.requires.id (ap place c.in-One.ensures.is) q.1 (c.one.ensures q.0 (sym (ap (has_rule (rows c.spend.new.self c.args.es.now) (ctx c.spend.new.self c.args.o)) c.in-One.ensures.is) ∙ q.1))
+    let q = rule_at (rows c.spend.new.self c.args.es.now) (ctx c.spend.new.self c.args.o) (term c.spend.new.self c.args.id) (ap unruled (c.in_ok-spend-in-None.ensures.kept.trees c.args.id c.requires.id) ∙ sym c.in-None.ensures) in
+    has_ruled c.args.es.now c.args.o c.args.id c.in_ok-spend-in-None.ensures c.requires.rows c.requires.ctx c.requires.id (ap place c.in-One.ensures.is) q.1 (c.one.ensures q.0 (sym (ap (has_rule (rows c.spend.new.self c.args.es.now) (ctx c.spend.new.self c.args.o)) c.in-One.ensures.is) ∙ q.1))
 
 pub infer-returns-in-Two : goal.infer-returns-in-Two
 infer-returns-in-Two g t c =
-    let q = rule_at (rows c.spend.new.self c.args.es.now) (ctx c.spend.new.self c.args.o) (term c.spend.new.self c.args.id) (ap unruled (c.in_ok-spend.ensures.kept.trees c.args.id c.requires.id) ∙ sym c.in-None.ensures) in
-    has_ruled c.args.es.now c.args.o c.args.id c.in_ok-spend.ensures c.requires.rows c.requires.ctx c.requires.id (ap place c.in-Two.ensures.is) q.1 (c.two.ensures q.0 (sym (ap (has_rule (rows c.spend.new.self c.args.es.now) (ctx c.spend.new.self c.args.o)) c.in-Two.ensures.is) ∙ q.1))
+    let q = rule_at (rows c.spend.new.self c.args.es.now) (ctx c.spend.new.self c.args.o) (term c.spend.new.self c.args.id) (ap unruled (c.in_ok-spend-in-None.ensures.kept.trees c.args.id c.requires.id) ∙ sym c.in-None.ensures) in
+    has_ruled c.args.es.now c.args.o c.args.id c.in_ok-spend-in-None.ensures c.requires.rows c.requires.ctx c.requires.id (ap place c.in-Two.ensures.is) q.1 (c.two.ensures q.0 (sym (ap (has_rule (rows c.spend.new.self c.args.es.now) (ctx c.spend.new.self c.args.o)) c.in-Two.ensures.is) ∙ q.1))
 
 pub check-returns-in_err-spend : goal.check-returns-in_err-spend
 check-returns-in_err-spend g t c = meets_broke c.from_residual.ensures.1 c.in_err-spend.ensures
