@@ -1,5 +1,5 @@
 #!/usr/bin/env bash
-# Measures target/bin/outline on four shapes of script at three lengths. Needs: rt check outline
+# Measures the program outline on four shapes of script at three lengths. Needs: (cd crates/outline && rt run < /dev/null)
 set -eu
 cd "$(dirname "$0")/.."
 dir=$(mktemp -d)
@@ -18,12 +18,12 @@ for kind in statements one-statement comments no-tokens; do
     best=999999
     for _ in 1 2 3 4 5; do
       from=$(date +%s%N)
-      target/bin/outline < "$dir/script" > "$dir/out"
+      crates/outline/out/outline < "$dir/script" > "$dir/out"
       to=$(date +%s%N)
       took=$(( (to - from) / 10000 ))
       [ $took -lt $best ] && best=$took
     done
-    count=$(valgrind --tool=callgrind --callgrind-out-file=/dev/null target/bin/outline < "$dir/script" 2>&1 > "$dir/out" | sed -n 's/.*Collected : *//p')
+    count=$(valgrind --tool=callgrind --callgrind-out-file=/dev/null crates/outline/out/outline < "$dir/script" 2>&1 > "$dir/out" | sed -n 's/.*Collected : *//p')
     printf '| %s | %d | %d | %d.%02d ms |\n' $kind $size "$count" $((best / 100)) $((best % 100))
   done
 done
