@@ -1,19 +1,18 @@
 -- How what a call has shown is put together from what its calls have shown.
-use Rattle.std.proofs.Common.{◌≡◌, ℕ, zero, suc, ◌+◌, ◌<◌, ◌≤◌, Bool, true, false, List, [], ◌∷◌, IsErrAnd, IfOk, Some, None, Ok, Err, MatchBool, Option, Result, sym, refl, ap, ◌∙◌, subst, ap₂, arith}
+use Rattle.std.proofs.Common.{◌≡◌, ℕ, suc, ◌+◌, ◌<◌, ◌≤◌, Bool, true, false, List, [], ◌∷◌, IsErrAnd, IfOk, Some, None, Ok, Err, MatchBool, Option, Result, sym, refl, ap, ◌∙◌, subst, ap₂, arith}
 use Rattle.term.specs.declared.arena.Arena.{Arena}
 use Rattle.term.specs.declared.faults.Spent as faults
-use Rattle.term.specs.declared.node.Binary.{Binary}
 use Rattle.term.specs.declared.node.Node.{Node}
 use Rattle.term.specs.declared.node.Stored.{Stored}
 use Rattle.term.specs.declared.node.Unary.TheVariants.{Fun, Fst, Snd, Inl, Inr}
 use Rattle.term.specs.declared.node.Binary.TheVariants.{Pi, Sigma, Exists, Typed, App, Pair, Pack, Unpack, Sum, Ascribe, Let}
 use Rattle.term.specs.Term.{Term, sort, local, entry, unary, binary, choice, bare, cells, lower, put, place}
-use Rattle.term.specs.Cells.{Bound, bindings, form, over, typed}
+use Rattle.term.specs.Cells.{Bound, form, over, typed}
 use Rattle.term.specs.State.{cells_in, term, ctx, Kept, Spends, Added, Built, Entered, Lowered}
 use Rattle.term.proofs.States.{still, on_to}
 use Rattle.rules.specs.declared.refusal.Reason.{Reason}
 use Rattle.rules.specs.declared.refusal.Reason.TheVariants.{NoRule, OtherForm, Unequal, Escapes, NoSort}
-use Rattle.rules.specs.Rules.{Judgement, has, meets, gives, Question, Entry, Premises, refuse, pay, ask, premise, same, gets, on, expect, parts, lifting, lowering, rule, has_rule, meets_rule}
+use Rattle.rules.specs.Rules.{Judgement, has, meets, gives, Question, Entry, Premises, refuse, pay, ask, premise, same, gets, on, expect, lifting, lowering, rule, has_rule, meets_rule}
 use Rattle.rules.specs.Derivation.{System, Spot, spot, refusal}
 use Rattle.normal.specs.declared.halt.Halt.{Halt}
 use Rattle.normal.specs.declared.halt.Halt.TheVariants as jam
@@ -25,7 +24,7 @@ use Rattle.normal.proofs.Steps as steps
 use Rattle.kernel.specs.declared.fault.Fault.{Fault}
 use Rattle.kernel.specs.declared.fault.Fault.TheVariants.{Spent, Refused}
 use Rattle.kernel.specs.Faults.{typing, passed, faulted}
-use Rattle.kernel.specs.Runs.{outcome, Judges, Ran, Leading, Leads, pair, tips, Lowering, Expects, unruled as unruled_at}
+use Rattle.kernel.specs.Runs.{outcome, Judges, Ran, Leading, Leads, pair, tips, Lowering, unruled as unruled_at}
 
 err_within : {A E : Type 0} (Q : E → Type 0) (P : A → Type 0) (r : Result A E) → IsErrAnd r Q → IfOk r P
 err_within Q P (Ok a) q = elim q [ ]

@@ -1,17 +1,16 @@
 -- How the judging of a statement is put together.
-use Rattle.std.proofs.Common.{◌≡◌, ℕ, suc, ◌+◌, ◌<◌, ◌≤◌, Bool, true, List, [], ◌∷◌, IsErrAnd, Some, None, Ok, Err, vec_items, Option, Result, sym, refl, ap, ◌∙◌, subst, ap₂, arith, MatchResult}
+use Rattle.std.proofs.Common.{◌≡◌, ℕ, ◌+◌, ◌<◌, ◌≤◌, true, List, [], IsErrAnd, None, Ok, Err, vec_items, Option, Result, sym, refl, ap, ◌∙◌, subst, ap₂, arith}
 use Rattle.term.specs.declared.arena.Arena.{Arena}
 use Rattle.term.specs.declared.faults.Spent as faults
 use Rattle.term.specs.declared.node.Stored.{Stored}
 use Rattle.term.specs.Term.{Term, cells, closed}
-use Rattle.term.specs.Cells.{bound, bindings, over}
+use Rattle.term.specs.Cells.{bindings}
 use Rattle.term.specs.Layout.{cells_of, Settled}
 use Rattle.term.specs.State.{cells_in, term, ctx, Kept, Spends, Rewound}
 use Rattle.term.proofs.Trees.{chain_none}
-use Rattle.term.proofs.States.{still, on_to, bound_kept}
-use Rattle.rules.specs.declared.refusal.Refusal.{Refusal}
+use Rattle.term.proofs.States.{on_to}
 use Rattle.rules.specs.declared.statement.Kind.{Kind}
-use Rattle.rules.specs.Rules.{Judgement, has, gives, Entry, Premises, premise, has_a_sort}
+use Rattle.rules.specs.Rules.{Judgement, has, Entry, Premises, has_a_sort}
 use Rattle.rules.specs.Derivation.{System, Spot, Chain}
 use Rattle.rules.specs.Scope.{Sealed, Scoped, depth}
 use Rattle.rules.specs.Statement.{settles, judged, spot_of}
@@ -26,7 +25,7 @@ use Rattle.kernel.specs.declared.fault.Fault.{Fault}
 use Rattle.kernel.specs.declared.fault.Fault.TheVariants.{Spent, Refused}
 use Rattle.kernel.specs.Faults.{typing, faulted}
 use Rattle.kernel.specs.Runs.{Judges, Leads}
-use Rattle.kernel.specs.Judging.{Stands, Restored, Concluding, Concludes, Accepted, Stopped, Judged, Exact}
+use Rattle.kernel.specs.Judging.{Stands, Restored, Concludes, Accepted, Stopped, Judged, Exact}
 
 stands_from : {x y z : Arena} {mark : ℕ} {s : Stored} → Kept x y → mark ≤ cells_in x → Stands y z mark s → Stands x z mark s
 stands_from k h d = record {

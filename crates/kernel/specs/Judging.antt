@@ -1,5 +1,5 @@
 -- What judging a statement comes to, and how it leaves the arena.
-use Rattle.std.specs.Prelude.{◌≡◌, ℕ, ◌+◌, ◌<◌, ◌≤◌, true, List, [], ◌∷◌, is_ok, Ok, Err, Option, Result, MatchResult}
+use Rattle.std.specs.Prelude.{◌≡◌, ℕ, ◌+◌, ◌<◌, ◌≤◌, true, List, is_ok, Ok, Err, Option, Result, MatchResult}
 use Rattle.term.specs.declared.arena.Arena.{Arena}
 use Rattle.term.specs.declared.node.Stored.{Stored}
 use Rattle.term.specs.Term.{Term, cells}

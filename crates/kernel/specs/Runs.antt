@@ -10,7 +10,6 @@ use Rattle.term.specs.State.{cells_in, term, Kept}
 use Rattle.rules.specs.declared.refusal.Reason.TheVariants.{OtherForm}
 use Rattle.rules.specs.Rules.{Judgement, Entry, Premises, parts, lowering}
 use Rattle.rules.specs.Derivation.{System, Spot, refusal}
-use Rattle.normal.specs.Views.{both, over_both}
 use Rattle.normal.specs.Runs.{Outcome, Ends, Goes}
 use Rattle.kernel.specs.declared.fault.Fault.{Fault}
 use Rattle.kernel.specs.declared.fault.Fault.TheVariants.{Refused}

@@ -1,5 +1,5 @@
 -- How what has come of a judgement is put together from what has come of its premises.
-use Rattle.std.proofs.Common.{◌≡◌, ℕ, ◌+◌, ◌<◌, ◌≤◌, List, Some, None, Option, sym, subst, arith}
+use Rattle.std.proofs.Common.{◌≡◌, ℕ, ◌+◌, ◌<◌, List, Some, None, Option, sym, subst, arith}
 use Rattle.term.specs.Term.{Term, bare}
 use Rattle.rules.specs.declared.refusal.Reason.{Reason}
 use Rattle.rules.specs.declared.refusal.Reason.TheVariants.{NoRule, Unequal, NoSort}

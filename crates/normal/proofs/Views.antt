@@ -1,13 +1,13 @@
 -- What indices stand for stays as it was while cells are added.
-use Rattle.std.proofs.Common.{◌≡◌, ℕ, zero, suc, ◌<◌, ◌≤◌, List, [], ◌∷◌, length, get_or, Some, None, Option, refl, ap, ◌∙◌, ap₂, arith}
+use Rattle.std.proofs.Common.{◌≡◌, ℕ, zero, suc, ◌<◌, ◌≤◌, List, [], ◌∷◌, length, get_or, Some, None, Option, refl, ap, ap₂, arith}
 use Rattle.term.specs.declared.arena.Arena.{Arena}
 use Rattle.term.specs.declared.node.Stored.{Stored}
 use Rattle.term.specs.Term.{Term}
-use Rattle.term.specs.Cells.{Bound, bindings, bound, over}
-use Rattle.term.specs.State.{cells_in, term, ctx, Kept}
+use Rattle.term.specs.Cells.{bindings, over}
+use Rattle.term.specs.State.{cells_in, Kept}
 use Rattle.term.proofs.States.{bound_kept}
 use Rattle.rules.specs.Rules.{Entry}
-use Rattle.normal.specs.Views.{row, rows, top, peak, Listed, binding}
+use Rattle.normal.specs.Views.{rows, top, Listed, binding}
 
 as_row : {t u : Term} {v w : Option Term} → t ≡ u → v ≡ w → ◌≡◌ {A = Entry} (record { type = t; value = v }) (record { type = u; value = w })
 as_row p q = cc

@@ -7,7 +7,7 @@ use Rattle.term.specs.declared.node.Unary.TheVariants.{Fun, Fst, Snd, Inl, Inr}
 use Rattle.term.specs.declared.node.Binary.{Binary}
 use Rattle.term.specs.declared.node.Binary.TheVariants.{Pi, Sigma, Exists, Typed, App, Pair, Pack, Unpack, Sum, Ascribe, Let}
 use Rattle.term.specs.Forms.{binds, binds_last}
-use Rattle.term.specs.Term.{Term, sort, local, entry, unary, binary, choice}
+use Rattle.term.specs.Term.{Term, unary, binary, choice}
 use Rattle.term.specs.State.{term, Read}
 use Rattle.grammar.specs.Grammar.{Name}
 use Rattle.grammar.specs.Text.{binder_name, sort_text, text}

@@ -1,5 +1,5 @@
 -- The text of a term by the parts of its forms: what stands before, between and after them.
-use Rattle.std.specs.Prelude.{ℕ, zero, suc, ◌+◌, List, [], ◌∷◌, ◌++◌, map, codes}
+use Rattle.std.specs.Prelude.{ℕ, zero, suc, ◌+◌, List, [], ◌++◌, map, codes}
 use Rattle.script.specs.declared.statement.Span.{Span}
 use Rattle.script.specs.Names.{bytes_at}
 use Rattle.term.specs.declared.node.Unary.{Unary}

@@ -1,14 +1,12 @@
 -- Within any budget a judgement is derived, is refused, or its count passes the budget.
-use Rattle.std.proofs.Common.{◌≡◌, ℕ, zero, suc, ◌+◌, ◌-◌, ◌<◌, ◌≤◌, List, Some, None, Option, sym, refl, ap, subst, arith}
+use Rattle.std.proofs.Common.{◌≡◌, ℕ, zero, suc, ◌+◌, ◌-◌, ◌<◌, ◌≤◌, List, Some, None, Option, refl, subst, arith}
 use native.Mathlib.Decide.{dec_lt}
 use Rattle.term.specs.Term.{Term, bare}
-use Rattle.rules.specs.declared.refusal.Reason.TheVariants.{NoSort}
-use Rattle.rules.specs.declared.refusal.Refusal.{Refusal}
 use Rattle.rules.specs.Rules.{Judgement, Question, Entry, rule}
 use Rattle.rules.specs.Rules.{Premises, conclude, refuse, pay, ask, premise, same}
-use Rattle.rules.specs.Derivation.{System, Spot, spot, Derives, rule_use, Chain, done, paid, told, proved, equal}
-use Rattle.rules.specs.Derivation.{Refuses, no_rule, stop_rule_use, Halts, here, stop_paid, stop_told, none, stop_proved, fails, stop_equal, differs}
-use Rattle.rules.specs.Derivation.{Exceeds, at_once, pass_rule_use, Passes, paying, pass_paid, pass_told, within, pass_proved, pass_equal}
+use Rattle.rules.specs.Derivation.{System, Spot, spot, Derives, rule_use, done, paid, told, proved, equal}
+use Rattle.rules.specs.Derivation.{no_rule, stop_rule_use, here, stop_paid, stop_told, none, stop_proved, fails, stop_equal, differs}
+use Rattle.rules.specs.Derivation.{at_once, pass_rule_use, Passes, paying, pass_paid, pass_told, within, pass_proved, pass_equal}
 use Rattle.rules.specs.Laws.{Judged, derived, refused, exceeded, Followed, concluded, halted, passed}
 use Rattle.rules.proofs.Alike.{same_term}
 

@@ -1,11 +1,11 @@
 -- What stays under a wider system.
-use Rattle.std.proofs.Common.{◌≡◌, ℕ, zero, suc, ◌+◌, ◌-◌, ◌<◌, ◌≤◌, List, Some, None, Option, refl, arith}
-use Rattle.term.specs.Term.{Term, bare}
+use Rattle.std.proofs.Common.{◌≡◌, ℕ, List, Option, refl}
+use Rattle.term.specs.Term.{Term}
 use Rattle.rules.specs.declared.refusal.Reason.TheVariants.{NoSort}
 use Rattle.rules.specs.declared.refusal.Refusal.{Refusal}
-use Rattle.rules.specs.Rules.{Judgement, Question, Entry, rule}
-use Rattle.rules.specs.Rules.{Premises, conclude, refuse, pay, ask, premise, same}
-use Rattle.rules.specs.Derivation.{System, Spot, spot, Derives, rule_use, Chain, done, paid, told, proved, equal}
+use Rattle.rules.specs.Rules.{Judgement, Entry}
+use Rattle.rules.specs.Rules.{Premises}
+use Rattle.rules.specs.Derivation.{System, Spot, Derives, rule_use, Chain, done, paid, told, proved, equal}
 use Rattle.rules.specs.Derivation.{Refuses, no_rule, stop_rule_use, Halts, here, stop_paid, stop_told, none, stop_proved, fails, stop_equal, differs}
 use Rattle.rules.specs.Derivation.{Exceeds, at_once, pass_rule_use, Passes, paying, pass_paid, pass_told, within, pass_proved, pass_equal}
 use Rattle.rules.specs.Laws.{Wider}

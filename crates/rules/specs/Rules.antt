@@ -9,7 +9,7 @@ use Rattle.term.specs.Term.{Term, sort, local, entry, unary, binary, choice, cel
 use Rattle.term.specs.Forms.{code, code_two}
 use Rattle.term.specs.Cells.{Bound, bindings}
 use Rattle.rules.specs.declared.refusal.Reason.{Reason}
-use Rattle.rules.specs.declared.refusal.Reason.TheVariants.{NoRule, OtherForm, Unequal, Escapes, NoSort}
+use Rattle.rules.specs.declared.refusal.Reason.TheVariants.{OtherForm, Escapes}
 
 -- an entry: its type, and its value unless it is assumed
 pub record Entry : Type 0 where

@@ -1,12 +1,11 @@
 -- The reader of statements, lexeme by lexeme.
-use Rattle.std.proofs.Common.{◌≡◌, ℕ, ◌+◌, ◌<◌, ◌≤◌, true, false, List, [], ◌∷◌, length, Some, None, Option, sym, refl, ap, ◌∙◌, subst, ap₂, arith}
+use Rattle.std.proofs.Common.{◌≡◌, ℕ, ◌+◌, ◌≤◌, true, false, List, [], ◌∷◌, length, Some, None, Option, sym, refl, ap, ◌∙◌, subst, ap₂, arith}
 use Rattle.script.specs.declared.token.Lexeme.{Lexeme}
 use Rattle.script.specs.declared.statement.Span.{Span}
 use Rattle.script.specs.declared.statement.StatementKind.{StatementKind}
-use Rattle.script.specs.declared.statement.Statement.{Statement}
 use Rattle.script.specs.declared.statement.Tally.{Tally}
 use Rattle.script.specs.Parts.{lexemes_from}
-use Rattle.script.specs.Statements.{Run, statement_kind, first_word, runs, first_wrong, head, entered, summary, summaries, start_of, statements_from}
+use Rattle.script.specs.Statements.{statement_kind, first_word, runs, first_wrong, head, entered, summary, summaries, start_of, statements_from}
 use Rattle.script.specs.Walk.{none_yet, one_more, tally, until, from_next, begin_at}
 use Rattle.script.specs.View.{LexemeAhead, Sought, LexemeTaken, Counted, StatementTaken}
 use Rattle.script.proofs.Runs.{until_first, until_more, from_first, from_more, runs_first, runs_start, tally_of, named_until}

@@ -1,5 +1,5 @@
 -- A step of the scanner over the parts of a script.
-use Rattle.std.proofs.Common.{◌≡◌, ℕ, zero, suc, pred, ◌+◌, ◌-◌, ◌<◌, ◌≤◌, Bool, true, false, cond, ◌&&◌, ◌||◌, eqb, List, [], ◌∷◌, length, get_or, drop, Some, None, codes, Option, sym, refl, ap, ◌∙◌, subst, ap₂, arith, length-drop}
+use Rattle.std.proofs.Common.{◌≡◌, ℕ, zero, suc, pred, ◌+◌, ◌-◌, ◌<◌, ◌≤◌, Bool, true, false, ◌&&◌, ◌||◌, eqb, List, [], ◌∷◌, length, get_or, drop, Some, None, codes, Option, sym, refl, ap, ◌∙◌, subst, ap₂, arith, length-drop}
 use Rattle.std.specs.Char.{is_ascii_digit}
 use Rattle.std.specs.List.{prefix_len, AllByRecursion}
 use Rattle.std.proofs.lemmas.List.{get_or-drop, drop-drop}
@@ -7,8 +7,7 @@ use Rattle.std.proofs.lemmas.List.Sums.{prefix_len-le-length}
 use Rattle.std.proofs.lemmas.Bool.{both_ways, cond_both, or_left, and_parts, eqb-true, ne_eqb}
 use Rattle.script.specs.declared.token.Kind.{Kind}
 use Rattle.script.specs.declared.token.Piece.{Piece}
-use Rattle.script.specs.declared.token.Part.{Part}
-use Rattle.script.specs.Tokens.{letter, word_byte, in_line, blank, begins_with, symbol, joining_symbols, single_symbols, token, gap, piece_or, or_else, token_piece, piece, next_piece}
+use Rattle.script.specs.Tokens.{letter, word_byte, in_line, blank, begins_with, symbol, joining_symbols, single_symbols, piece_or, or_else, token_piece, piece, next_piece}
 use Rattle.script.specs.Parts.{parts, placed, line_start, parts_from}
 
 -- a piece takes a byte, and none past the end

@@ -3,7 +3,7 @@ use Rattle.std.specs.Prelude.{◌≡◌, ℕ, ◌+◌, ◌<◌, true, false, Lis
 use Rattle.std.specs.List.{flat_map, AllByRecursion}
 use Rattle.script.specs.declared.token.Part.{Part}
 use Rattle.script.specs.declared.token.Lexeme.{Lexeme}
-use Rattle.script.specs.Parts.{parts_from, lexemes_from}
+use Rattle.script.specs.Parts.{parts_from}
 use Rattle.script.specs.Statements.{Run, all_of, first_word, runs}
 
 -- each part begins where the one before it ended

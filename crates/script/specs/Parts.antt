@@ -1,5 +1,5 @@
 -- The parts of a script in their order: blanks, comments and lexemes.
-use Rattle.std.specs.Prelude.{ℕ, zero, suc, pred, ◌+◌, ◌-◌, Bool, true, false, ◌||◌, List, [], ◌∷◌, drop, Some, None, Option, ◌==◌, slice_index}
+use Rattle.std.specs.Prelude.{ℕ, zero, suc, pred, ◌-◌, Bool, ◌||◌, List, [], ◌∷◌, drop, Some, None, Option, ◌==◌, slice_index}
 use Rattle.script.specs.declared.token.Kind.{Kind}
 use Rattle.script.specs.declared.token.Piece.{Piece}
 use Rattle.script.specs.declared.token.Part.{Part}

@@ -1,22 +1,21 @@
 -- The end of a statement, and its name.
-use Rattle.std.proofs.Common.{◌≡◌, ℕ, ◌+◌, ◌*◌, ◌<◌, ◌≤◌, Bool, true, false, cond, List, [], ◌∷◌, length, get_or, Some, None, Ok, Err, vec_items, Option, Result, sym, refl, ap, ◌∙◌, subst, ap₂, arith}
+use Rattle.std.proofs.Common.{◌≡◌, ℕ, ◌+◌, true, false, cond, List, [], ◌∷◌, get_or, Some, None, Ok, Err, vec_items, Option, Result, sym, refl, ap, ◌∙◌, subst}
 use Rattle.std.specs.Char.{is_ascii_alphabetic}
 use Rattle.std.proofs.lemmas.Bool.{both_ways, cond-true, cond-false}
 use Rattle.script.specs.declared.statement.Span.{Span}
-use Rattle.term.specs.State.{term, cells_in}
 use Rattle.grammar.specs.Words.{Word}
-use Rattle.grammar.specs.Grammar.{Name, here, find_entry, Steps, give, refuse, ending, Reading, refusal, Follows, refused, ended, overrun}
-use Rattle.grammar.specs.Statements.{unless_known, new_name}
+use Rattle.grammar.specs.Grammar.{Name, here, find_entry, Steps, refuse, ending, Reading, refusal, Follows, refused, ended, overrun}
+use Rattle.grammar.specs.Statements.{unless_known}
 use Rattle.syntax.specs.declared.known.Known.{Known}
 use Rattle.syntax.specs.declared.fault.SyntaxFault.{SyntaxFault}
 use Rattle.syntax.specs.declared.fault.SyntaxFault.TheVariants.{Misfit, KnownName}
 use Rattle.syntax.specs.Faults.{fault_number, fault_place}
-use Rattle.syntax.specs.Look.{text, left, is_nil, span_bytes}
-use Rattle.syntax.specs.Scopes.{opened, entry_names}
-use Rattle.syntax.specs.Parses.{Now, words_left, binders, entries, Moves, Leads, Stopped, Parsed}
+use Rattle.syntax.specs.Look.{text, is_nil, span_bytes}
+use Rattle.syntax.specs.Scopes.{opened}
+use Rattle.syntax.specs.Parses.{Now, words_left, binders, entries, Leads, Stopped}
 use Rattle.script.specs.declared.statement.StatementKind.{StatementKind}
 use Rattle.syntax.specs.Reads.{Finishes, ParsedStatement}
-use Rattle.syntax.proofs.Logic.{start, then, halt, stays, like}
+use Rattle.syntax.proofs.Logic.{then, halt, stays, like}
 
 pub nil_is : {X : Type 0} (xs : List X) → is_nil xs ≡ true → xs ≡ []
 nil_is [] e = refl

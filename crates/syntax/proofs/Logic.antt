@@ -1,5 +1,5 @@
 -- The steps of the parser put together: one lemma for each way that a step can go.
-use Rattle.std.proofs.Common.{◌≡◌, ℕ, ◌+◌, ◌*◌, ◌<◌, ◌≤◌, Bool, true, false, cond, List, [], ◌∷◌, ◌++◌, length, take, is_some, IsErrAnd, Some, None, Ok, Err, vec_items, vec_len, Option, Result, sym, refl, ap, ◌∙◌, subst, ap₂, append_assoc, arith}
+use Rattle.std.proofs.Common.{◌≡◌, ℕ, ◌+◌, ◌*◌, ◌<◌, ◌≤◌, true, false, List, [], ◌∷◌, ◌++◌, length, take, IsErrAnd, Some, None, Ok, Err, vec_items, vec_len, Result, sym, refl, ap, ◌∙◌, subst, ap₂, append_assoc, arith}
 use Rattle.std.proofs.lemmas.Result.{err_from_is_err_and}
 use Rattle.std.proofs.lemmas.Bool.{both_ways}
 use Rattle.script.specs.declared.statement.Span.{Span}
@@ -8,20 +8,20 @@ use Rattle.term.specs.declared.arena.Arena.{Arena}
 use Rattle.term.specs.declared.node.Node.{Node}
 use Rattle.term.specs.declared.node.Binary.{Binary}
 use Rattle.term.specs.State.{term, cells_in, Kept, Added}
-use Rattle.term.specs.Cells.{form, over}
+use Rattle.term.specs.Cells.{form}
 use Rattle.term.specs.Term.{Term, binary, choice}
 use Rattle.grammar.specs.Words.{Word}
-use Rattle.grammar.specs.Grammar.{Name, is, past, here, next_name, next_number, Sign, Steps, give, refuse, misfit, next, a_name, a_number, part, eat, binder, typed, arm, meant, find, find_entry, production, Reading, tree, refusal, Follows, given, refused, unfit, passed, turned, named, nameless, numbered, numberless, parted, broken}
+use Rattle.grammar.specs.Grammar.{Name, is, past, here, next_name, next_number, Sign, Steps, give, refuse, misfit, next, a_name, a_number, part, eat, binder, typed, arm, meant, find, find_entry, production, tree, refusal, Follows, given, refused, unfit, passed, turned, named, nameless, numbered, numberless, parted, broken}
 use Rattle.syntax.specs.declared.ahead.Ahead.{Ahead}
 use Rattle.syntax.specs.declared.scope.Scope.{Scope}
 use Rattle.syntax.specs.declared.known.Known.{Known}
 use Rattle.syntax.specs.declared.fault.SyntaxFault.{SyntaxFault}
 use Rattle.syntax.specs.declared.fault.SyntaxFault.TheVariants.{Misfit}
 use Rattle.syntax.specs.Faults.{fault_number, fault_place}
-use Rattle.syntax.specs.Look.{text, left, span_bytes, name_bytes}
+use Rattle.syntax.specs.Look.{text, left, span_bytes}
 use Rattle.syntax.specs.Scopes.{opened, entry_names}
 use Rattle.syntax.proofs.Scopes.{opened_push, closed_again}
-use Rattle.syntax.specs.Parses.{Now, at, words_left, binders, entries, Moves, Leads, Gave, Stopped, Parsed, Eats, Names, Numbers, Expects, Calls, Counts, under, Room, valued, two_names, two_arms, TypedBinder, Valued, TwoNames, AnArm, TwoArms, Means, AsUnder}
+use Rattle.syntax.specs.Parses.{Now, at, words_left, binders, entries, Moves, Leads, Gave, Stopped, Parsed, Eats, Names, Expects, Calls, Counts, under, Room, valued, two_names, two_arms, TypedBinder, Valued, TwoNames, AnArm, TwoArms, Means, AsUnder}
 
 pub kept_id : (a : Arena) → Kept a a
 kept_id a = record { long = omega arith; limit = refl; trees = λ k h. refl; chains = λ o h. refl }

@@ -1,5 +1,5 @@
 -- A statement's words, from its lexemes.
-use Rattle.std.proofs.Common.{◌≡◌, ℕ, suc, ◌+◌, ◌*◌, ◌<◌, ◌≤◌, List, [], ◌∷◌, map, length, Some, None, Ok, Err, vec_items, vec_len, Option, Result, sym, refl, ap, ◌∙◌, subst, ap₂, arith}
+use Rattle.std.proofs.Common.{◌≡◌, ℕ, suc, ◌+◌, ◌*◌, ◌≤◌, List, [], ◌∷◌, length, Some, None, Ok, vec_items, sym, refl, ap, ◌∙◌, subst, arith}
 use Rattle.std.proofs.lemmas.List.{length-map}
 use Rattle.script.specs.declared.statement.Statement.{Statement}
 use Rattle.script.specs.declared.statement.StatementKind.{StatementKind}
@@ -21,11 +21,10 @@ use Rattle.syntax.specs.declared.ahead.Ahead.{Ahead}
 use Rattle.syntax.specs.declared.known.Known.{Known}
 use Rattle.syntax.specs.declared.scope.Scope.{Scope}
 use Rattle.syntax.specs.declared.fault.SyntaxFault.{SyntaxFault}
-use Rattle.syntax.specs.declared.read.Sentence.{Sentence}
 use Rattle.syntax.specs.Faults.{fault_number, fault_place}
 use Rattle.syntax.specs.Look.{text, left}
 use Rattle.syntax.specs.Scopes.{entry_names}
-use Rattle.syntax.specs.Parses.{Now, at, words_left, entries, Moves, Room, Gave, Stopped}
+use Rattle.syntax.specs.Parses.{at, entries, Room, Gave, Stopped}
 use Rattle.syntax.specs.Reads.{statement_words, own, Next, ReadWell, Unaltered}
 use Rattle.syntax.proofs.Logic.{kept_id}
 

@@ -3,7 +3,7 @@
 use Rattle.std.specs.Prelude.{◌≡◌, ℕ, ◌+◌, ◌*◌, ◌<◌, ◌≤◌, Bool, true, false, cond, List, [], ◌∷◌, ◌++◌, length, is_some, Some, None, Ok, Err, vec_items, vec_len, Option, Result}
 use Rattle.script.specs.declared.statement.Span.{Span}
 use Rattle.script.specs.declared.token.Mark.{Mark}
-use Rattle.script.specs.declared.token.Mark.TheVariants.{Colon, Becomes, Comma, Closes, ClosesBrace, Bar, EndWord, Opens, OpensBrace, MatchWord, Arrow, InWord}
+use Rattle.script.specs.declared.token.Mark.TheVariants.{Colon, Becomes, Comma, ClosesBrace, Bar, EndWord, Opens, OpensBrace, MatchWord, Arrow, InWord}
 use Rattle.term.specs.declared.arena.Arena.{Arena}
 use Rattle.term.specs.declared.node.Node.{Node}
 use Rattle.term.specs.Cells.{form, reach, high}
@@ -12,7 +12,7 @@ use Rattle.term.specs.declared.node.Binary.TheVariants.{Pi, Ascribe, Pack, Unpac
 use Rattle.term.specs.State.{term, cells_in, Kept}
 use Rattle.term.specs.Term.{Term, binary, place}
 use Rattle.grammar.specs.Words.{Word}
-use Rattle.grammar.specs.Grammar.{Name, is, past, here, next_name, next_number, Sign, expr, sums, products, atom, production, Steps, give, refuse, meant, find, find_entry, misfit, next, part, eat, binder, typed, arm, bracketed, matches, Reading, tree, refusal, Follows}
+use Rattle.grammar.specs.Grammar.{Name, is, past, here, next_name, next_number, Sign, expr, sums, products, production, Steps, give, refuse, meant, find, find_entry, misfit, next, part, eat, binder, typed, arm, bracketed, matches, Reading, tree, refusal, Follows}
 use Rattle.syntax.specs.declared.ahead.Ahead.{Ahead}
 use Rattle.syntax.specs.declared.scope.Scope.{Scope}
 use Rattle.syntax.specs.declared.known.Known.{Known}

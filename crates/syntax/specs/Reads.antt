@@ -1,5 +1,5 @@
 -- The reading of a statement.
-use Rattle.std.specs.Prelude.{◌≡◌, ℕ, ◌+◌, ◌*◌, ◌<◌, ◌≤◌, true, false, List, [], ◌∷◌, length, Some, None, Ok, Err, vec_items, Option, Result}
+use Rattle.std.specs.Prelude.{◌≡◌, ℕ, ◌+◌, ◌*◌, ◌<◌, ◌≤◌, true, false, List, [], ◌∷◌, Some, None, Ok, Err, Option, Result}
 use Rattle.script.specs.declared.statement.Span.{Span}
 use Rattle.script.specs.declared.statement.Statement.{Statement}
 use Rattle.script.specs.declared.statement.StatementKind.{StatementKind}
@@ -15,7 +15,6 @@ use Rattle.grammar.specs.Grammar.{Name, here, expr, Steps, give, part, ending, t
 use Rattle.grammar.specs.Statements.{statement, new_name, States}
 use Rattle.syntax.specs.declared.ahead.Ahead.{Ahead}
 use Rattle.syntax.specs.declared.known.Known.{Known}
-use Rattle.syntax.specs.declared.scope.Scope.{Scope}
 use Rattle.syntax.specs.declared.fault.SyntaxFault.{SyntaxFault}
 use Rattle.syntax.specs.declared.fault.SyntaxFault.TheVariants.{Misfit}
 use Rattle.syntax.specs.declared.read.Sentence.{Sentence}

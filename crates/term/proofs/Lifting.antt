@@ -1,7 +1,7 @@
 -- Lifting and lowering.
-use Rattle.std.proofs.Common.{◌≡◌, ℕ, ◌+◌, ◌<◌, Bool, true, false, leb, Some, sym, refl, ap, ◌∙◌, ap₂, add_assoc, zero-add, arith}
+use Rattle.std.proofs.Common.{◌≡◌, ℕ, ◌+◌, ◌<◌, Bool, true, false, leb, sym, refl, ap, ◌∙◌, ap₂, add_assoc, zero-add, arith}
 use Rattle.term.specs.Forms.{binds, binds_last}
-use Rattle.term.specs.Term.{Term, sort, local, entry, unary, binary, choice, walk, any_local, lift, names, unlift, lower, closed, cells, bare}
+use Rattle.term.specs.Term.{Term, sort, local, entry, unary, binary, choice, walk, any_local, lift, names, unlift, closed, cells, bare}
 use Rattle.term.specs.Laws.{LiftZero, LiftLift, LiftSwap, LowerLift, LiftLower, LowerFails, LowerSwap, LiftClosed, ClosedLift, ClosedLower, CellsLift, CellsLower, BareNames, BareLift, BareLower}
 
 -- two walks do what two others do, if they do so to each local

@@ -1,13 +1,13 @@
 -- What a read of a cell shows.
-use Rattle.std.proofs.Common.{◌≡◌, ℕ, suc, ◌+◌, ◌*◌, ◌^◌, ◌<◌, ◌≤◌, [], ◌∷◌, length, get_or, Some, None, vec_items, vec_len, Option, sym, refl, ap, ◌∙◌, ap₂, arith}
+use Rattle.std.proofs.Common.{◌≡◌, ℕ, ◌<◌, ◌≤◌, [], ◌∷◌, length, get_or, Some, None, vec_items, Option, sym, refl, ap, ◌∙◌, ap₂, arith}
 use Rattle.std.proofs.lemmas.List.{get_or_default, get_or_past}
 use Rattle.term.specs.declared.change.Change.{Change}
 use Rattle.term.specs.declared.change.Change.TheVariants.{Lift, Lower, Put, PutBoth}
 use Rattle.term.specs.declared.node.Cell.{Cell}
 use Rattle.term.specs.declared.arena.Arena.{Arena}
-use Rattle.term.specs.Term.{Term, filled}
+use Rattle.term.specs.Term.{filled}
 use Rattle.term.specs.Cells.{root, over, bound, links, blank, tree, chain, tree_to, chain_to}
-use Rattle.term.specs.State.{cells_in, term, ctx, Kept, Holds, Found}
+use Rattle.term.specs.State.{cells_in, term, Kept, Holds, Found}
 use Rattle.term.specs.Walk.{changed, top}
 use Rattle.term.proofs.Trees.{tree_at, chain_at}
 

@@ -1,10 +1,10 @@
 -- What storing leaves: the two copies, once the cells before them are taken out.
-use Rattle.std.proofs.Common.{◌≡◌, ℕ, ◌+◌, ◌≤◌, true, List, length, take, Ok, vec_items, vec_len, Option, sym, refl, ap, ◌∙◌, arith}
+use Rattle.std.proofs.Common.{◌≡◌, ℕ, ◌+◌, ◌≤◌, true, List, take, Ok, vec_items, Option, ap, arith}
 use Rattle.term.specs.declared.arena.Arena.{Arena}
 use Rattle.term.specs.declared.node.Cell.{Cell}
 use Rattle.term.specs.Term.{Term, cells, closed}
 use Rattle.term.specs.Cells.{over, bound}
-use Rattle.term.specs.Layout.{without, last, lay, lay_all, cells_of, shut, root_of, Lays, LaysAll}
+use Rattle.term.specs.Layout.{without, lay, lay_all, cells_of, shut, Lays, LaysAll}
 use Rattle.term.specs.State.{cells_in, term}
 use Rattle.term.proofs.Layouts.{PlacedBoth, placed_both, without_top}
 use Rattle.term.proofs.States.{bound_kept}

@@ -1,9 +1,8 @@
 -- The tree of a cell depends on the cells below it alone.
-use Rattle.std.proofs.Common.{◌≡◌, ℕ, zero, suc, ◌+◌, ◌*◌, ◌^◌, ◌<◌, ◌≤◌, max, List, [], ◌∷◌, ◌++◌, length, get_or, take, Some, None, Option, sym, refl, ap, ◌∙◌, arith, length-append, length-take, below_more}
+use Rattle.std.proofs.Common.{◌≡◌, ℕ, zero, suc, ◌+◌, ◌*◌, ◌^◌, ◌<◌, ◌≤◌, List, [], ◌∷◌, ◌++◌, length, get_or, take, Some, None, Option, sym, refl, ap, ◌∙◌, arith, length-append, length-take, below_more}
 use Rattle.std.proofs.lemmas.List.{get_or_append_left, get_or_at, get_or-take}
 use Rattle.term.specs.declared.node.Node.{Node}
 use Rattle.term.specs.declared.node.Node.TheVariants.{Sort, Local, Entry, One, Two, Match}
-use Rattle.term.specs.declared.node.Binder.{Binder}
 use Rattle.term.specs.declared.node.Cell.{Cell}
 use Rattle.term.specs.declared.node.Cell.TheVariants.{Part, Under}
 use Rattle.term.specs.Term.{Term, sort, local, entry, unary, binary, choice, cells}

@@ -1,14 +1,9 @@
-use Rattle.std.proofs.Common.{[], Some, None, sym, refl, ap, ◌∙◌, subst, ap₂, arith}
-use Rattle.term.specs.Term.{closed, place}
-use Rattle.term.specs.State.{term}
-use Rattle.term.proofs.States.{on_to}
+use Rattle.std.proofs.Common.{[], refl, ap₂, arith}
 use Rattle.rules.specs.Rules.{premise, gives}
-use Rattle.rules.specs.Scope.{Sealed}
-use Rattle.rules.specs.Statement.{settles}
 use Rattle.normal.proofs.Views.{rows_kept}
 use Rattle.normal.proofs.Logic as normal
-use Rattle.kernel.proofs.Logic.{like, premised, formed, unformed}
-use Rattle.kernel.proofs.Statements.{then_all, halt_all, as_before, at_spot, has_none, sort_none, gives_none, type_closed, form_closed}
+use Rattle.kernel.proofs.Logic.{like, formed, unformed}
+use Rattle.kernel.proofs.Statements.{then_all, halt_all, at_spot, sort_none, gives_none, form_closed}
 use Rattle.kernel.proofs.judge.form_alone.Goals as goal
 
 pub returns-in_err-sort : goal.returns-in_err-sort

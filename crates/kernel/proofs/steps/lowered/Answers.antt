@@ -1,4 +1,3 @@
-use Rattle.std.proofs.Common.{Ok, ap, subst}
 use Rattle.kernel.proofs.Logic.{lowered_to, escapes, lowered_short}
 use Rattle.kernel.proofs.steps.lowered.Goals as goal
 

@@ -1,10 +1,10 @@
-use Rattle.std.proofs.Common.{[], ◌∷◌, Some, None, sym, refl, ap, ◌∙◌, ap₂, arith}
+use Rattle.std.proofs.Common.{◌∷◌, Some, None, sym, refl, ap, ◌∙◌, ap₂, arith}
 use Rattle.term.specs.declared.node.Unary.TheVariants.{Fst}
 use Rattle.term.specs.declared.node.Binary.TheVariants.{Pi}
 use Rattle.term.specs.Term.{unary, binary, bare, place}
 use Rattle.term.specs.Cells.{bindings}
 use Rattle.term.specs.State.{term, ctx}
-use Rattle.term.proofs.States.{still, on_to}
+use Rattle.term.proofs.States.{on_to}
 use Rattle.rules.specs.Rules.{premise, has, meets, gives, expect, as_sort, parts, lowering, has_a_sort, arm, has_rule, has_one, has_two, meets_rule, meets_one, meets_two, meets_equal}
 use Rattle.normal.specs.Views.{rows}
 use Rattle.kernel.specs.Runs.{unruled}

@@ -1,4 +1,4 @@
-use Rattle.std.proofs.Common.{refl, ap, arith}
+use Rattle.std.proofs.Common.{refl, ap}
 use Rattle.term.specs.Cells.{bound}
 use Rattle.term.specs.State.{term}
 use Rattle.normal.proofs.Logic.{some, none, stuck, concluded, built, lacks}

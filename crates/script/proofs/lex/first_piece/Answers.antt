@@ -1,4 +1,4 @@
-use Rattle.std.proofs.Common.{sym, arith, rules}
+use Rattle.std.proofs.Common.{sym, rules}
 use Rattle.script.proofs.Pieces.{comment_next, token_next}
 use Rattle.script.proofs.lex.first_piece.Goals as goal
 

@@ -1,7 +1,6 @@
 use Rattle.std.proofs.Common.{Bool}
 use Rattle.script.specs.Names.{named}
 use Rattle.script.proofs.Nearest.{steps_back}
-use Rattle.script.proofs.names.last_has_name.Given as given
 use Rattle.script.proofs.names.last_has_name.Goals as goal
 
 pub returns : goal.returns

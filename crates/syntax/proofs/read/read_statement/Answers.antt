@@ -1,4 +1,4 @@
-use Rattle.std.proofs.Common.{min, length, sym, refl, ◌∙◌, arith}
+use Rattle.std.proofs.Common.{min, length, sym, arith}
 use Rattle.grammar.proofs.Misfit.{misfits}
 use Rattle.grammar.proofs.Reader.{one_statement}
 use Rattle.syntax.proofs.Statements.{next_is, none_is, untouched, cut_again}

@@ -1,4 +1,4 @@
-use Rattle.std.proofs.Common.{◌^◌, ◌<◌, arith}
+use Rattle.std.proofs.Common.{arith}
 use Rattle.printing.proofs.Puts.{spelt, then, cut, last}
 use Rattle.printing.proofs.Texts.{digit, digits}
 use Rattle.printing.proofs.pen.Pen.+number.Goals as goal
