@@ -50,7 +50,7 @@ word_good w h e l =
     let t = short_word (leb (length w) 64 && not (bytes_eq w (codes "_"))) f.1 in
     record { letter_first = l; word_bytes = h; short = leb-true (length w) 64 (and_parts (leb (length w) 64) _ t).0; free = f.0 }
 
-leads : (p : ℕ → Bool) (bs : List ℕ) → AllByRecursion (λ b. p b ≡ true) (take (prefix_len p bs) bs)
+pub leads : (p : ℕ → Bool) (bs : List ℕ) → AllByRecursion (λ b. p b ≡ true) (take (prefix_len p bs) bs)
 leads p [] = tt
 leads p (b ∷ bs) =
     cond_both (p b) _ _ (λ n. AllByRecursion (λ c. p c ≡ true) (take n (b ∷ bs)))

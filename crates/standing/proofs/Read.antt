@@ -1,6 +1,6 @@
 -- What is read has its locals bound, its entries there and its sorts low.
 use Rattle.std.proofs.Common.{◌≡◌, ℕ, suc, ◌+◌, ◌<◌, ◌≤◌, Bool, true, false, cond, not, ◌||◌, List, [], ◌∷◌, length, Some, None, Option, refl, ap, subst, arith}
-use Rattle.std.specs.List.{AllByRecursion as All}
+use Rattle.std.specs.List.{AllByRecursion}
 use Rattle.std.specs.Str.{bytes_eq}
 use Rattle.std.proofs.lemmas.Bool.{cond_both, lt-leb}
 use Rattle.std.proofs.ByRecursion.{All-weaker}
@@ -17,7 +17,7 @@ use Rattle.grammar.specs.Phrases.Phrase.{by_atom, by_fst, by_snd, by_inl, by_inr
 use Rattle.grammar.specs.Statements.{States}
 use Rattle.grammar.specs.Sentences.{Enters, Sentence}
 use Rattle.grammar.specs.Sentences.Sentence.{a_def, a_typed_def, an_axiom, a_check, an_eval}
-use Rattle.grammar.specs.Standing.{Bounded, Low, ReadClosed, ReadBounded}
+use Rattle.standing.specs.Standing.{Bounded, Low, ReadClosed, ReadBounded}
 use Rattle.grammar.proofs.Sentences.{read_sentences}
 
 -- what is found lies below n
@@ -64,7 +64,7 @@ module _ (q : ℕ → Type 0) where
   Fine no_token = Unit {0}
 
   abbrev AllFine : List Word → Type 0
-  AllFine = All (λ (w : Word). Fine w.token)
+  AllFine = AllByRecursion (λ (w : Word). Fine w.token)
 
   past_fine : (a : List Word) → AllFine a → AllFine (past a)
   past_fine [] h = tt

@@ -14,7 +14,7 @@ use Rattle.rules.specs.Derivation.{System}
 use Rattle.rules.specs.Numbers.{number}
 use Rattle.rules.specs.Statement.{Derivation, Refusing, Overrun}
 use Rattle.grammar.specs.Grammar.{tree, refusal}
-use Rattle.ledger.specs.State.{Standing, Verdict, State, entries_of, next_at, ReadsAt, used, free, unsized, full, reach, pend, stand, charge, enter}
+use Rattle.ledger.specs.State.{Verdict, State, entries_of, next_at, ReadsAt, used, free, unsized, full, reach, pend, stand, charge, enter}
 
 -- the plain numbers by which a verdict is handed in
 pub record Token : Type 0 where

@@ -1,6 +1,6 @@
 -- The state of a book: what it was opened with, the place reached in its script, the entries that
 -- stand, the pending verdict and the total cost of submits.
-use Rattle.std.specs.Prelude.{ℕ, ◌+◌, ◌-◌, ◌*◌, min, Bool, ◌||◌, List, [], ◌∷◌, ◌++◌, map, length, Some, None, Option, nat_le, nat_lt}
+use Rattle.std.specs.Prelude.{ℕ, ◌+◌, ◌-◌, min, Bool, ◌||◌, List, [], ◌∷◌, ◌++◌, map, length, Some, None, Option, nat_le, nat_lt}
 use Rattle.script.specs.declared.statement.Span.{Span}
 use Rattle.script.specs.declared.statement.Statement.{Statement}
 use Rattle.script.specs.declared.statement.StatementKind.{StatementKind}
@@ -10,7 +10,8 @@ use Rattle.term.specs.Term.{Term, cells}
 use Rattle.term.specs.Layout.{cells_of}
 use Rattle.rules.specs.Rules.{Entry}
 use Rattle.grammar.specs.Grammar.{Name, Reading}
-use Rattle.grammar.specs.Statements.{statement_words, States}
+use Rattle.grammar.specs.Statements.{States}
+use Rattle.syntax.specs.Reads.{statement_words}
 
 -- an entry: the place and kind of its statement, its name, its type, and its value unless it is assumed
 pub record Standing : Type 0 where

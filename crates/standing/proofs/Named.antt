@@ -2,7 +2,7 @@
 use Rattle.std.proofs.Common.{◌≡◌, ℕ, zero, suc, pred, ◌+◌, ◌≤◌, Bool, true, false, not, ◌&&◌, eqb, leb, List, [], ◌∷◌, get_or, take, drop, Some, None, codes, Option, sym, refl, ap, ◌∙◌, arith}
 use Rattle.std.specs.Str.Parse.{digits_value}
 use Rattle.std.specs.Char.{is_ascii_alphabetic, is_ascii_digit, digit_value}
-use Rattle.std.specs.List.{prefix_len, AllByRecursion as All}
+use Rattle.std.specs.List.{prefix_len, AllByRecursion}
 use Rattle.std.specs.Str.{bytes_eq}
 use Rattle.std.proofs.lemmas.List.{get_or-drop}
 use Rattle.std.proofs.lemmas.Bool.{both_ways, cond-true, cond_both, and_from, and_parts, leb-true}
@@ -20,22 +20,23 @@ use Rattle.script.specs.Tokens.{letter, word_byte, blank, begins_with, spelt, or
 use Rattle.script.specs.Walk.{until, from_next}
 use Rattle.script.proofs.Runs.{runs_first}
 use Rattle.term.specs.Term.{Term}
-use Rattle.grammar.specs.Words.{Word, as_token, word, words}
+use Rattle.grammar.specs.Words.{Word, as_token, words}
 use Rattle.grammar.specs.Grammar.{name_in, next_name, find_entry, past}
 use Rattle.grammar.specs.Phrases.{Calls, called}
-use Rattle.grammar.specs.Statements.{own, statement_words, kind_of}
+use Rattle.grammar.specs.Statements.{kind_of}
+use Rattle.syntax.specs.Reads.{own, statement_words}
 use Rattle.grammar.specs.Sentences.{Enters, Sentence}
 use Rattle.grammar.specs.Sentences.Sentence.{a_def, a_typed_def, an_axiom, a_check, an_eval}
 use Rattle.grammar.specs.Text.{GoodName}
-use Rattle.grammar.specs.Standing.{Low, AllLow, LowNumbers, KindsAgree, NewlyNamed, NamedStatements}
+use Rattle.standing.specs.Standing.{Low, AllLow, LowNumbers, KindsAgree, NewlyNamed, NamedStatements}
 use Rattle.grammar.proofs.Good.{leads, names_good}
 use Rattle.grammar.proofs.Lookups.{kind_first}
 use Rattle.grammar.proofs.Sentences.{read_sentences}
 
-all_until : (P : Lexeme → Type 0) (ls : List Lexeme) → All P ls → All P (until ls)
+all_until : (P : Lexeme → Type 0) (ls : List Lexeme) → AllByRecursion P ls → AllByRecursion P (until ls)
 unfolding until
 all_until P [] h = tt
-all_until P (l ∷ ls) h = cond_both (first_word l) [] (l ∷ until ls) (All P) (λ e. tt) (λ e. (h.0, all_until P ls h.1))
+all_until P (l ∷ ls) h = cond_both (first_word l) [] (l ∷ until ls) (AllByRecursion P) (λ e. tt) (λ e. (h.0, all_until P ls h.1))
 
 -- the first statement by the lexemes from a place on
 abbrev Summed : List ℕ → Statement → List Lexeme → Type 0
@@ -101,7 +102,7 @@ named_kind NoToken x y e = let z : ◌≡◌ {A = ℕ} 0 1 = cc in absurd (omega
 abbrev GoodIn : List ℕ → Lexeme → Type 0
 GoodIn s l = l.kind ≡ Name → is_ascii_alphabetic (get_or s l.at 0) ≡ true → GoodName (bytes_at s l.at l.len)
 
-named_first : (s : List ℕ) (entries : List (List ℕ)) (st : Statement) (o : Option StatementKind) (ms : List Lexeme) → st.name ≡ entered s o (head ms) → enters o ≡ true → All (GoodIn s) ms → Begins entries (words s ms) → NewlyNamed s entries st
+named_first : (s : List ℕ) (entries : List (List ℕ)) (st : Statement) (o : Option StatementKind) (ms : List Lexeme) → st.name ≡ entered s o (head ms) → enters o ≡ true → AllByRecursion (GoodIn s) ms → Begins entries (words s ms) → NewlyNamed s entries st
 named_first s entries st o [] e i h b = let n = b.next in let z : ◌≡◌ {A = ℕ} 0 1 = cc in absurd (omega arith)
 named_first s entries st o (m ∷ ms) e i h b =
     let k = named_kind m.kind (bytes_at s m.at m.len) b.word b.next in
@@ -113,7 +114,7 @@ named_first s entries st o (m ∷ ms) e i h b =
       good = h.0 k.0 l;
     }
 
-named_by : (s : List ℕ) (entries : List (List ℕ)) (st : Statement) (ls : List Lexeme) → Summed s st ls → enters st.kind ≡ true → All (GoodIn s) ls → Begins entries (past (words s (own ls))) → NewlyNamed s entries st
+named_by : (s : List ℕ) (entries : List (List ℕ)) (st : Statement) (ls : List Lexeme) → Summed s st ls → enters st.kind ≡ true → AllByRecursion (GoodIn s) ls → Begins entries (past (words s (own ls))) → NewlyNamed s entries st
 named_by s entries st [] e i h b = absurd e
 named_by s entries st (l ∷ ls) e i h b =
     named_first s entries st (statement_kind l.kind) (until ls) (sym (ap (λ (x : Statement). x.name) e))
@@ -138,7 +139,7 @@ abbrev LowIf : Option Kind → Type 0
 LowIf None = Unit {0}
 LowIf (Some k) = LowKind k
 
-spelt_low : (rows : List (List ℕ × Kind)) (w : List ℕ) → All (λ (r : List ℕ × Kind). LowKind r.1) rows → LowIf (spelt rows w)
+spelt_low : (rows : List (List ℕ × Kind)) (w : List ℕ) → AllByRecursion (λ (r : List ℕ × Kind). LowKind r.1) rows → LowIf (spelt rows w)
 spelt_low [] w h = tt
 spelt_low (r ∷ rows) w h = cond_both (bytes_eq r.0 w) _ _ LowIf (λ e. h.0) (λ e. spelt_low rows w h.1)
 
@@ -163,7 +164,7 @@ word_low w = or_kind (reserved w) (name_kind w) (reserved_low w) (cond_both _ Na
 digit_low : (b : ℕ) → is_ascii_digit b ≡ true → digit_value b ≤ 9
 digit_low b e = grind (arith, nat_tests)
 
-number_low : (w : List ℕ) → All (λ b. is_ascii_digit b ≡ true) w → LowKind (number_kind w)
+number_low : (w : List ℕ) → AllByRecursion (λ b. is_ascii_digit b ≡ true) w → LowKind (number_kind w)
 number_low [] h = tt
 number_low (b ∷ []) h = omega (arith, digit_low b h.0)
 number_low (b ∷ c ∷ bs) h =
@@ -175,7 +176,7 @@ abbrev LowPiece : Option Piece → Type 0
 LowPiece None = Unit {0}
 LowPiece (Some p) = LowIf p.kind
 
-symbol_low : (rows : List (List ℕ × Kind)) (bs : List ℕ) → All (λ (r : List ℕ × Kind). LowKind r.1) rows → LowPiece (symbol rows bs)
+symbol_low : (rows : List (List ℕ × Kind)) (bs : List ℕ) → AllByRecursion (λ (r : List ℕ × Kind). LowKind r.1) rows → LowPiece (symbol rows bs)
 symbol_low [] bs h = tt
 symbol_low (r ∷ rows) bs h = cond_both (begins_with r.0 bs) _ _ LowPiece (λ e. h.0) (λ e. symbol_low rows bs h.1)
 
@@ -203,18 +204,18 @@ piece_low f b bs =
 abbrev LowIn : Lexeme → Type 0
 LowIn l = LowKind l.kind
 
-with_low : (o : Option Kind) (at n : ℕ) (ls : List Lexeme) → LowIf o → All LowIn ls → All LowIn (with_lexeme o at n ls)
+with_low : (o : Option Kind) (at n : ℕ) (ls : List Lexeme) → LowIf o → AllByRecursion LowIn ls → AllByRecursion LowIn (with_lexeme o at n ls)
 with_low None at n ls h k = k
 with_low (Some x) at n ls h k = (h, k)
 
-parts_low : (k : ℕ) (f : Bool) (bs : List ℕ) (at : ℕ) → All LowIn (lexemes (parts k f bs at))
+parts_low : (k : ℕ) (f : Bool) (bs : List ℕ) (at : ℕ) → AllByRecursion LowIn (lexemes (parts k f bs at))
 parts_low zero f [] at = tt
 parts_low (suc k) f [] at = tt
 parts_low zero f (b ∷ bs) at =
     with_low (piece f b bs).kind at (piece f b bs).len _ (piece_low f b bs) (parts_low (pred (piece f b bs).len) (eqb b 10) bs (suc at))
 parts_low (suc k) f (b ∷ bs) at = parts_low k (eqb b 10) bs (suc at)
 
-lexemes_low : (s : List ℕ) (at : ℕ) → All LowIn (lexemes_from s at)
+lexemes_low : (s : List ℕ) (at : ℕ) → AllByRecursion LowIn (lexemes_from s at)
 unfolding lexemes_from parts_from
 lexemes_low s at = parts_low 0 (line_start s at) (drop at s) at
 
@@ -225,11 +226,11 @@ token_of (Fixed m) x h = tt
 token_of (First w) x h = tt
 token_of NoToken x h = tt
 
-words_low : (s : List ℕ) (ls : List Lexeme) → All LowIn ls → AllLow (words s ls)
+words_low : (s : List ℕ) (ls : List Lexeme) → AllByRecursion LowIn ls → AllLow (words s ls)
 words_low s [] h = tt
 words_low s (l ∷ ls) h = (token_of l.kind _ h.0, words_low s ls h.1)
 
-own_low : (ls : List Lexeme) → All LowIn ls → All LowIn (own ls)
+own_low : (ls : List Lexeme) → AllByRecursion LowIn ls → AllByRecursion LowIn (own ls)
 own_low [] h = tt
 own_low (l ∷ ls) h = (h.0, all_until LowIn ls h.1)
 

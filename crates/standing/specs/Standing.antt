@@ -1,7 +1,7 @@
 -- What a statement that is read has: every local bound, every entry there, low sorts, and where it
 -- enters a name, a new one.
 use Rattle.std.specs.Prelude.{◌≡◌, ℕ, ◌<◌, ◌≤◌, true, List, length, Some, None}
-use Rattle.std.specs.List.{AllByRecursion as All}
+use Rattle.std.specs.List.{AllByRecursion}
 use Rattle.script.specs.declared.statement.StatementKind.{StatementKind}
 use Rattle.script.specs.declared.statement.Span.{Span}
 use Rattle.script.specs.declared.statement.Statement.{Statement}
@@ -11,7 +11,8 @@ use Rattle.script.specs.Statements.{head, enters, statements_from}
 use Rattle.term.specs.Term.{Term, sort, local, entry, unary, binary, choice, closed}
 use Rattle.grammar.specs.Words.{Token, name, number, mark, first, no_token, Word, words}
 use Rattle.grammar.specs.Grammar.{Name, find_entry, tree}
-use Rattle.grammar.specs.Statements.{statement_words, kind_of, States}
+use Rattle.grammar.specs.Statements.{kind_of, States}
+use Rattle.syntax.specs.Reads.{statement_words}
 use Rattle.grammar.specs.Text.{GoodName}
 
 -- sorts are numbered to 65,535 and entries are among the first m
@@ -32,7 +33,7 @@ Low (first w) = Unit {0}
 Low no_token = Unit {0}
 
 abbrev pub AllLow : List Word → Type 0
-AllLow = All (λ (w : Word). Low w.token)
+AllLow = AllByRecursion (λ (w : Word). Low w.token)
 
 -- no local of what is read points out of it
 abbrev pub ReadClosed : Type 0

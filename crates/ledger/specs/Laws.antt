@@ -10,7 +10,7 @@ use Rattle.rules.specs.Laws.{Wider}
 use Rattle.rules.specs.Statement.{Derivation, Refusing}
 use Rattle.grammar.specs.Grammar.{tree}
 use Rattle.ledger.specs.State.{Standing, Verdict, Opened, State, new, entries_of, next_at, ReadsAt, used, unsized}
-use Rattle.ledger.specs.Calls.{Token, token_of, same_numbers, Call, submit, handed_in, Answer, accepted, verdict, refused, Refused, by_book, by_judging, rule_kind, Judging, Step, Run}
+use Rattle.ledger.specs.Calls.{Token, same_numbers, Call, submit, handed_in, Answer, accepted, verdict, refused, Refused, by_book, by_judging, rule_kind, Judging, Step, Run}
 
 -- the statement of an entry: the script says it at some place, and its names, read by the entries es
 -- before it, make it one about E
