@@ -19,7 +19,7 @@ import sys
 KIT = "/opt/rattle/port/notes/2026-11-18-names-are-in-snake-case/snake.py"
 NAME = r"[^\s(){}.;,@\"«»λ:→]+"
 SIGNED = re.compile(rf"^\s*(?:(?:abbrev|pub|unfoldable)\s+)*({NAME})\s*:\s+(\S+)", re.M)
-DECLARED = re.compile(rf"^(?:pub\s+)?(?:record|data|ruleset)\s+({NAME})", re.M)
+DECLARED = re.compile(rf"^\s*(?:pub\s+)?(?:record|data|ruleset)\s+({NAME})", re.M)
 BOUND = re.compile(r"[({]([^(){}:;]+?) : ")
 ALIAS = re.compile(rf"\bas ({NAME})")
 IMPORTED = {".antt": re.compile(r"^use [^{\n]*\{([^}]*)\}", re.M), ".rt": re.compile(r"^ghost use [^{;]*\{([^}]*)\}", re.M)}

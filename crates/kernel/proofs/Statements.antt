@@ -14,7 +14,7 @@ use Rattle.rules.specs.Rules.{Judgement, has, Entry, Premises, has_a_sort}
 use Rattle.rules.specs.Derivation.{System, Spot, Chain}
 use Rattle.rules.specs.Scope.{Sealed, Scoped, depth}
 use Rattle.rules.specs.Statement.{settles, judged, spot_of}
-use Rattle.rules.specs.Laws.{Premise-laws}
+use Rattle.rules.specs.Laws.{PremiseLaws}
 use Rattle.rules.proofs.Together.{laws}
 use Rattle.rules.proofs.Scope.{derives_closed}
 use Rattle.normal.specs.Runs.{Outcome, Ends, Goes}
@@ -94,7 +94,7 @@ stopped {x = x} {y = y} {z = z} {f = f} k E h d w =
     )
 
 module _ (S : System) (R : List Entry) (k : Kind) (E : Term) (x z : Arena) (mark : ℕ) where
-  law : Premise-laws S R (spot_of E) (judged k E)
+  law : PremiseLaws S R (spot_of E) (judged k E)
   law = (laws S R).premises (spot_of E) (judged k E)
 
   -- so there is no other answer

@@ -2,14 +2,14 @@
 use Rattle.std.proofs.Common.{List}
 use Rattle.rules.specs.Rules.{Judgement, Entry, Premises}
 use Rattle.rules.specs.Derivation.{System, Spot}
-use Rattle.rules.specs.Laws.{Wider, Judgement-laws, Premise-laws, Wider-laws, Laws}
+use Rattle.rules.specs.Laws.{Wider, JudgementLaws, PremiseLaws, WiderLaws, Laws}
 use Rattle.rules.proofs.Unique.{derives_unique, chain_unique, not_refused, not_halted, exceeds_less, passes_less, refuses_unique, halts_unique, refuses_less, halts_less}
 use Rattle.rules.proofs.Outcome.{judge, outcome}
 use Rattle.rules.proofs.Scope.{derives_closed}
 use Rattle.rules.proofs.Widening.{wider_derives, wider_chain, wider_exceeds, wider_passes, wider_refuses, wider_halts}
 
 module _ (S : System) (es : List Entry) where
-  judgement_laws : (j : Judgement) → Judgement-laws S es j
+  judgement_laws : (j : Judgement) → JudgementLaws S es j
   judgement_laws j =
       record {
         one_result = λ t u m n. derives_unique S es;
@@ -20,7 +20,7 @@ module _ (S : System) (es : List Entry) where
         some_outcome = judge S es j;
       }
 
-  premise_laws : (w : Spot) (c : Premises) → Premise-laws S es w c
+  premise_laws : (w : Spot) (c : Premises) → PremiseLaws S es w c
   premise_laws w c =
       record {
         one_result = λ t u v x m n. chain_unique S es;
@@ -31,7 +31,7 @@ module _ (S : System) (es : List Entry) where
         some_outcome = outcome S es w c;
       }
 
-  wider_laws : (W : System) → Wider S W → Wider-laws S es W
+  wider_laws : (W : System) → Wider S W → WiderLaws S es W
   wider_laws W h =
       record {
         derives = λ j t n. wider_derives S W h es;

@@ -27,7 +27,7 @@ module _ (S : System) (es : List Entry) where
 
   -- a judgement has at most one result and cost, and at most one refusal and cost; never both; a
   -- passed budget is less than the cost of either; within every budget there is one of the three
-  pub record Judgement-laws (j : Judgement) : Type 0 where
+  pub record JudgementLaws (j : Judgement) : Type 0 where
     pub one_result : (t u : Term) (m n : ℕ) → Derives S es j t m → Derives S es j u n → (t ≡ u) × (m ≡ n)
     pub one_refusal : (r s : Refusal) (m n : ℕ) → Refuses S es j r m → Refuses S es j s n → (r ≡ s) × (m ≡ n)
     pub not_both : (t : Term) (r : Refusal) (m n : ℕ) → Derives S es j t m → Refuses S es j r n → ⊥
@@ -36,7 +36,7 @@ module _ (S : System) (es : List Entry) where
     pub some_outcome : (b : ℕ) → Judged j b
 
   -- the same of premises
-  pub record Premise-laws (w : Spot) (c : Premises) : Type 0 where
+  pub record PremiseLaws (w : Spot) (c : Premises) : Type 0 where
     pub one_result : (t u : Term) (v x : Option Term) (m n : ℕ) → Chain S es c t v m → Chain S es c u x n → (t ≡ u) × (v ≡ x) × (m ≡ n)
     pub one_refusal : (r s : Refusal) (m n : ℕ) → Halts S es w c r m → Halts S es w c s n → (r ≡ s) × (m ≡ n)
     pub not_both : (t : Term) (v : Option Term) (r : Refusal) (m n : ℕ) → Chain S es c t v m → Halts S es w c r n → ⊥
@@ -46,7 +46,7 @@ module _ (S : System) (es : List Entry) where
 
   -- with a wider system every derivation, every passed budget and every refusal stays, but for those
   -- where the first named no sort
-  pub record Wider-laws (W : System) : Type 0 where
+  pub record WiderLaws (W : System) : Type 0 where
     pub derives : (j : Judgement) (t : Term) (n : ℕ) → Derives S es j t n → Derives W es j t n
     pub refuses : (j : Judgement) (r : Refusal) (n : ℕ) → (r.reason ≢ NoSort) → Refuses S es j r n → Refuses W es j r n
     pub exceeds : (j : Judgement) (b : ℕ) → Exceeds S es j b → Exceeds W es j b
@@ -55,9 +55,9 @@ module _ (S : System) (es : List Entry) where
     pub passes : (c : Premises) (b : ℕ) → Passes S es c b → Passes W es c b
 
 pub record LawsOf (S : System) (es : List Entry) : Type 0 where
-  pub judgements : (j : Judgement) → Judgement-laws S es j
-  pub premises : (w : Spot) (c : Premises) → Premise-laws S es w c
-  pub wider : (W : System) → Wider S W → Wider-laws S es W
+  pub judgements : (j : Judgement) → JudgementLaws S es j
+  pub premises : (w : Spot) (c : Premises) → PremiseLaws S es w c
+  pub wider : (W : System) → Wider S W → WiderLaws S es W
   -- no local of a result lacks its binder, if none of the entries and of the judgement does
   pub scoped : Sealed es → (j : Judgement) (t : Term) (n : ℕ) → Scoped j → Derives S es j t n → closed (depth j) t ≡ true
 
