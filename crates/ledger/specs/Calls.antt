@@ -1,4 +1,4 @@
--- The calls on a book: their tests in order, their answers, and the state that each leaves.
+-- Five calls on a book: their tests in order, their answers, and the state that each leaves.
 use Rattle.std.specs.Prelude.{◌≡◌, ℕ, ◌+◌, ◌-◌, ◌*◌, ◌≤◌, Bool, cond, ◌&&◌, List, [], ◌∷◌, length, take, Some, None, Option, ◌==◌, nat_lt}
 use Rattle.script.specs.declared.statement.Statement.{Statement}
 use Rattle.script.specs.declared.statement.StatementKind.{StatementKind}

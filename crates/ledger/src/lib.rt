@@ -1,3 +1,3 @@
-//! What a book is: its state, its calls, and the laws that are to hold of every list of calls. These
-//! are definitions alone: no call is here, and no law is proved.
+//! What a book is to be: its state, five of its calls (submit, skip, keep, put aside, cut), and laws of
+//! every list of these. It is a draft: definitions alone, with no call, and no law is proved.
 #![tactic(auto)]

@@ -245,7 +245,7 @@ module _ (q : ℕ → Type 0) where
     stated : (ws us : List Word) (t : Term) → States entries end ws (tree t us) → AllFine ws → Stands m 0 t
     stated ws us t d h = sentence (read_sentences entries end ws us t d).sentence (past_fine ws h)
 
--- with no demand on numbers
+-- with no condition on numbers
 any_fine : (ws : List Word) → AllFine (λ n. Unit {0}) ws
 any_fine [] = tt
 any_fine (w ∷ ws) = (any w.token, any_fine ws)
