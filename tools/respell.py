@@ -5,10 +5,9 @@ usage: python3 tools/respell.py [ROOT]     once, right after the kit's port.py
 
 Facts and types become upper camel case (Lift-zero: LiftZero), all else snake case (lift-zero: lift_zero).
 The names are read off the declarations in the crates' specs/ and proofs/. Goals, which the check names, stay,
-and so do the names of src/. A name that would fall together with another that is
-declared or imported here is refused. The table of what was turned is
-written to tools/spelling.tsv, and the kit's script for spellings applies it to whole words of clauses,
-definitions and proofs. Three long cycles of functions get a name too.
+and so do the names of src/. A name that would fall together with another that is declared or imported here is
+refused. The table of what was turned is written to tools/spelling.tsv, and the kit's script for spellings
+applies it to whole words of clauses, definitions and proofs. Three long cycles of functions get a name too.
 """
 
 import os
