@@ -1,7 +1,6 @@
 //! Scripts, and the terms that are read from them, printed.
 use report::reprint::reprint_text;
 use std::alloc::{AllocError, Global};
-use std::process::Abort;
 use std::test::Fail;
 
 // Four tables, since one constant may have 10,000 expressions.
@@ -581,19 +580,18 @@ static CASES_D: [Case; 20] = [
 #[test]
 fn reprints(rt: HostRuntime) -> Result<(), Fail> {
     for c in CASES_A.iter().chain(CASES_B.iter()) {
-        reprinted(&rt, rt.alloc(), c.script, c.lines)?;
+        assert!(rt; reprinted(rt.alloc(), c.script, c.lines)?);
     }
     for c in CASES_C.iter().chain(CASES_D.iter()) {
-        reprinted(&rt, rt.alloc(), c.script, c.lines)?;
+        assert!(rt; reprinted(rt.alloc(), c.script, c.lines)?);
     }
     Ok(())
 }
 
 // Whether the script is reprinted by these lines.
-fn reprinted(rt: &impl Abort, heap: Global, script: &[u8], lines: &[u8]) -> Result<(), Fail> {
+fn reprinted(heap: Global, script: &[u8], lines: &[u8]) -> Result<bool, AllocError> {
     let text = reprint_text(heap, script)?;
-    assert!(rt; text.as_slice() == lines);
-    Ok(())
+    Ok(text.as_slice() == lines)
 }
 
 // A script, and one with the texts of its checks in their places. Both are reprinted by these
@@ -647,8 +645,8 @@ static AGAIN: [Again; 3] = [
 #[test]
 fn texts_again(rt: HostRuntime) -> Result<(), Fail> {
     for a in AGAIN.iter() {
-        reprinted(&rt, rt.alloc(), a.script, a.lines)?;
-        reprinted(&rt, rt.alloc(), a.again, a.lines)?;
+        assert!(rt; reprinted(rt.alloc(), a.script, a.lines)?);
+        assert!(rt; reprinted(rt.alloc(), a.again, a.lines)?);
     }
     Ok(())
 }
@@ -706,53 +704,60 @@ fn nested_lines(
 fn deep(rt: HostRuntime) -> Result<(), Fail> {
     let heap = rt.alloc();
     let open = nested(heap, b"(", b"", b"", 3999)?;
-    reprinted(
-        &rt,
-        heap,
-        open.as_slice(),
-        b"statement=1\nanswer=3\nat=4004\nterm=-\n",
-    )?;
+    assert!(rt;
+        reprinted(
+            heap,
+            open.as_slice(),
+            b"statement=1\nanswer=3\nat=4004\nterm=-\n",
+        )?
+    );
     let more = nested(heap, b"(", b"", b"", 4000)?;
-    reprinted(
-        &rt,
-        heap,
-        more.as_slice(),
-        b"statement=1\nanswer=2\nat=0\nterm=-\n",
-    )?;
+    assert!(rt;
+        reprinted(
+            heap,
+            more.as_slice(),
+            b"statement=1\nanswer=2\nat=0\nterm=-\n",
+        )?
+    );
     let shut = nested(heap, b"(", b"Type", b")", 1999)?;
-    reprinted(
-        &rt,
-        heap,
-        shut.as_slice(),
-        b"statement=1\nanswer=0\nat=-\nterm=Type\n",
-    )?;
+    assert!(rt;
+        reprinted(
+            heap,
+            shut.as_slice(),
+            b"statement=1\nanswer=0\nat=-\nterm=Type\n",
+        )?
+    );
     let functions = nested(heap, b" fun x =>", b"", b"", 1333)?;
-    reprinted(
-        &rt,
-        heap,
-        functions.as_slice(),
-        b"statement=1\nanswer=3\nat=12002\nterm=-\n",
-    )?;
+    assert!(rt;
+        reprinted(
+            heap,
+            functions.as_slice(),
+            b"statement=1\nanswer=3\nat=12002\nterm=-\n",
+        )?
+    );
     let whole = nested(heap, b" fun x =>", b" x", b"", 1332)?;
     let lines = nested_lines(heap, b"(fun _", b" => ", b"_1331", 1332)?;
-    reprinted(&rt, heap, whole.as_slice(), lines.as_slice())?;
+    assert!(rt; reprinted(heap, whole.as_slice(), lines.as_slice())?);
     let bare = nested(heap, b" ->", b"", b"", 3999)?;
-    reprinted(
-        &rt,
-        heap,
-        bare.as_slice(),
-        b"statement=1\nanswer=3\nat=6\nterm=-\n",
-    )?;
+    assert!(rt;
+        reprinted(
+            heap,
+            bare.as_slice(),
+            b"statement=1\nanswer=3\nat=6\nterm=-\n",
+        )?
+    );
     let arrows = nested(heap, b" Type ->", b"", b"", 1999)?;
-    reprinted(
-        &rt,
-        heap,
-        arrows.as_slice(),
-        b"statement=1\nanswer=3\nat=15997\nterm=-\n",
-    )?;
+    assert!(rt;
+        reprinted(
+            heap,
+            arrows.as_slice(),
+            b"statement=1\nanswer=3\nat=15997\nterm=-\n",
+        )?
+    );
     let types = nested(heap, b" Type ->", b" Type", b"", 1999)?;
     let lines = nested_lines(heap, b"(Pi (_", b" : Type), ", b"Type", 1999)?;
-    reprinted(&rt, heap, types.as_slice(), lines.as_slice())
+    assert!(rt; reprinted(heap, types.as_slice(), lines.as_slice())?);
+    Ok(())
 }
 
 // 1,000,000 bytes are reprinted, one more is not.
@@ -761,7 +766,8 @@ fn long_scripts(rt: HostRuntime) -> Result<(), Fail> {
     let heap = rt.alloc();
     let mut script = Vec::new(heap);
     repeat(&mut script, b" ", 1_000_000)?;
-    reprinted(&rt, heap, script.as_slice(), b"")?;
+    assert!(rt; reprinted(heap, script.as_slice(), b"")?);
     repeat(&mut script, b" ", 1)?;
-    reprinted(&rt, heap, script.as_slice(), b"answer=13\n")
+    assert!(rt; reprinted(heap, script.as_slice(), b"answer=13\n")?);
+    Ok(())
 }
