@@ -12,7 +12,7 @@ ghost use Rattle.grammar.specs.Statements.{OneStatement};
 /// is a phrase of the grammar, and a phrase that nothing goes on with is read; so it is with
 /// statements; refusal 3 lies at the first word with which no statement can begin; printed terms
 /// read back as themselves.
-pub fn reading_laws() -> u8
+pub fn reading_laws()
     ensures reading { OneReading }
     ensures statement { OneStatement }
     ensures read { ReadPhrases }
@@ -21,6 +21,4 @@ pub fn reading_laws() -> u8
     ensures sentences { SentencesRead }
     ensures misfit { Misfits }
     ensures trip { RoundTrip }
-{
-    1
-}
+{}

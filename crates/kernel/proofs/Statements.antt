@@ -9,7 +9,7 @@ use Rattle.term.specs.Layout.{cells_of, Settled}
 use Rattle.term.specs.State.{cells_in, term, ctx, Kept, Spends, Rewound}
 use Rattle.term.proofs.Trees.{chain_none}
 use Rattle.term.proofs.States.{on_to}
-use Rattle.rules.specs.declared.statement.Kind.{Kind}
+use Rattle.script.specs.declared.statement.StatementKind.{StatementKind}
 use Rattle.rules.specs.Rules.{Judgement, has, Entry, Premises, has_a_sort}
 use Rattle.rules.specs.Derivation.{System, Spot, Chain}
 use Rattle.rules.specs.Scope.{Sealed, Scoped, depth}
@@ -74,14 +74,14 @@ module _ {S : System} {R : List Entry} {w : Spot} where
   derived_of (Goes.derived n q d) = (n, q, d)
 
 -- what was gone through to the end of a statement is its judging
-pub accepted : {S : System} {R : List Entry} {x z : Arena} {mark : ℕ} {s : Stored} (k : Kind) (E : Term) → Concludes S R (spot_of E) (judged k E) x z mark (Ok s) → Accepted S R k E x z mark s
+pub accepted : {S : System} {R : List Entry} {x z : Arena} {mark : ℕ} {s : Stored} (k : StatementKind) (E : Term) → Concludes S R (spot_of E) (judged k E) x z mark (Ok s) → Accepted S R k E x z mark s
 accepted k E d = let g = derived_of d.made.1 in record { stands = d.made.0; cost = g.0; counted = g.1; derived = g.2 }
 
-stops_of : {S : System} {R : List Entry} (k : Kind) (E : Term) (x y z : Arena) (f : Fault) → z.left ≡ y.left → Goes S R (spot_of E) (judged k E) (faulted f) x.left y.left → Stopped S R k E x z f
+stops_of : {S : System} {R : List Entry} (k : StatementKind) (E : Term) (x y z : Arena) (f : Fault) → z.left ≡ y.left → Goes S R (spot_of E) (judged k E) (faulted f) x.left y.left → Stopped S R k E x z f
 stops_of k E x y z Spent q (Goes.overran d) = d
 stops_of k E x y z (Refused r) q (Goes.denied n a d) = (n, omega (arith, q), d)
 
-pub stopped : {S : System} {R : List Entry} {x y z : Arena} {mark : ℕ} {f : Fault} (k : Kind) (E : Term) → mark ≤ cells_in x → Concludes S R (spot_of E) (judged k E) x y mark (Err f) → Rewound y z mark → Restored x z mark × Stopped S R k E x z f
+pub stopped : {S : System} {R : List Entry} {x y z : Arena} {mark : ℕ} {f : Fault} (k : StatementKind) (E : Term) → mark ≤ cells_in x → Concludes S R (spot_of E) (judged k E) x y mark (Err f) → Rewound y z mark → Restored x z mark × Stopped S R k E x z f
 stopped {x = x} {y = y} {z = z} {f = f} k E h d w =
     let m = d.made.0 in (
       record {
@@ -93,7 +93,7 @@ stopped {x = x} {y = y} {z = z} {f = f} k E h d w =
       stops_of k E x y z f w.left d.made.1,
     )
 
-module _ (S : System) (R : List Entry) (k : Kind) (E : Term) (x z : Arena) (mark : ℕ) where
+module _ (S : System) (R : List Entry) (k : StatementKind) (E : Term) (x z : Arena) (mark : ℕ) where
   law : PremiseLaws S R (spot_of E) (judged k E)
   law = (laws S R).premises (spot_of E) (judged k E)
 

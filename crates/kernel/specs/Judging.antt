@@ -7,7 +7,7 @@ use Rattle.term.specs.Cells.{bound, over}
 use Rattle.term.specs.Layout.{cells_of}
 use Rattle.term.specs.State.{cells_in, term, ctx, Kept}
 use Rattle.rules.specs.declared.refusal.Refusal.{Refusal}
-use Rattle.rules.specs.declared.statement.Kind.{Kind}
+use Rattle.script.specs.declared.statement.StatementKind.{StatementKind}
 use Rattle.rules.specs.Rules.{Entry, Premises}
 use Rattle.rules.specs.Derivation.{System, Spot}
 use Rattle.rules.specs.Statement.{Derivation, Refusing, Overrun}
@@ -42,23 +42,23 @@ module _ (S : System) (es : List Entry) where
     pub made : Concluding w c a b mark r
 
   -- accepted: the type and value that stand there have a derivation, whose cost was taken from the budget
-  pub record Accepted (k : Kind) (E : Term) (a b : Arena) (mark : ℕ) (s : Stored) : Type 0 where
+  pub record Accepted (k : StatementKind) (E : Term) (a b : Arena) (mark : ℕ) (s : Stored) : Type 0 where
     pub stands : Stands a b mark s
     pub cost : ℕ
     pub counted : a.left ≡ cost + b.left
     pub derived : Derivation S es k E (term b s.kind) (bound s.value (term b)) cost
 
   -- else the statement's count passes the budget, or it is refused at a cost that was taken from it
-  abbrev pub Stopped : Kind → Term → Arena → Arena → Fault → Type 0
+  abbrev pub Stopped : StatementKind → Term → Arena → Arena → Fault → Type 0
   Stopped k E a b Spent = Overrun S es k E a.left
   Stopped k E a b (Refused r) = (cost : ℕ) × (a.left ≡ cost + b.left) × Refusing S es k E r cost
 
-  abbrev pub Judged : Kind → Term → Arena → Arena → ℕ → Result Stored Fault → Type 0
+  abbrev pub Judged : StatementKind → Term → Arena → Arena → ℕ → Result Stored Fault → Type 0
   Judged k E a b mark r = MatchResult r (Accepted k E a b mark) (λ f. Restored a b mark × Stopped k E a b f)
 
   -- and there is no other answer: what has a derivation within the budget is accepted, what is refused
   -- within it is refused so, and what passes it is spent
-  abbrev pub Exact : Kind → Term → ℕ → Result Stored Fault → Type 0
+  abbrev pub Exact : StatementKind → Term → ℕ → Result Stored Fault → Type 0
   Exact k E b r =
       ((P : Term) (v : Option Term) (n : ℕ) → Derivation S es k E P v n → n ≤ b → is_ok r ≡ true)
       × ((x : Refusal) (n : ℕ) → Refusing S es k E x n → n ≤ b → r ≡ Err (Refused x))

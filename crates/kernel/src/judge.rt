@@ -15,7 +15,7 @@ ghost use Rattle.kernel.specs.Judging.{Concludes, Judged, Exact};
 use crate::fault::Fault;
 use crate::typing::{infer, sort};
 use normal::norm::norm;
-use rules::statement::Kind;
+use script::statement::StatementKind;
 use sorts::SortSystem;
 use term::arena::Arena;
 use term::node::{Node, Stored};
@@ -26,7 +26,7 @@ pub fn judge<S: SortSystem>(
     arena: &mut Arena,
     es: &[Stored],
     sys: &S,
-    kind: Kind,
+    kind: StatementKind,
     mark: usize,
     id: usize,
 ) -> Result<Stored, Fault>
@@ -53,7 +53,7 @@ fn by_kind<S: SortSystem>(
     arena: &mut Arena,
     es: &[Stored],
     sys: &S,
-    kind: Kind,
+    kind: StatementKind,
     mark: usize,
     id: usize,
 ) -> Result<Stored, Fault>
@@ -65,9 +65,9 @@ fn by_kind<S: SortSystem>(
     ensures { Concludes (S.SortSystem.answers sys.now) (rows arena.old es.now) (spot_of (term arena.old id)) (judged kind (term arena.old id)) arena.old arena.new mark result }
 {
     match kind {
-        Kind::Def | Kind::Eval => type_and_form(arena, es, sys, mark, id),
-        Kind::Axiom => form_alone(arena, es, sys, mark, id),
-        Kind::Check => type_alone(arena, es, sys, mark, id),
+        StatementKind::Def | StatementKind::Eval => type_and_form(arena, es, sys, mark, id),
+        StatementKind::Axiom => form_alone(arena, es, sys, mark, id),
+        StatementKind::Check => type_alone(arena, es, sys, mark, id),
     }
 }
 

@@ -8,8 +8,6 @@ use Rattle.term.specs.Term.{Term, cells}
 use Rattle.rules.specs.declared.refusal.Layer.{Layer}
 use Rattle.rules.specs.declared.refusal.Layer.TheVariants.{Reading, Typing, Book}
 use Rattle.rules.specs.declared.refusal.Refusal.{Refusal}
-use Rattle.rules.specs.declared.statement.Kind.{Kind}
-use Rattle.rules.specs.declared.statement.Kind.TheVariants.{Def, Axiom, Check, Eval}
 use Rattle.rules.specs.Derivation.{System}
 use Rattle.rules.specs.Numbers.{number}
 use Rattle.rules.specs.Statement.{Derivation, Refusing, Overrun}
@@ -138,13 +136,6 @@ tests_of b (cut k) = none_pending b.pending b (cond (nat_lt (length b.standing) 
 unfoldable pub tests : State → Call → Tested
 tests b x = cond (unsized b.opened) (stay b 13) (tests_of b x)
 
--- the kinds of statements, as the rules name them
-abbrev pub rule_kind : StatementKind → Kind
-rule_kind word.Def = Def
-rule_kind word.Axiom = Axiom
-rule_kind word.Check = Check
-rule_kind word.Eval = Eval
-
 -- with the budget n the next statement, of kind k and about the term E, gets as far as judging
 pub record Judging (b : State) (n : ℕ) (st : Statement) (k : StatementKind) (E : Term) : Type 0 where
   pub tested : tests b (submit n) ≡ reads st
@@ -179,13 +170,13 @@ module _ (S : System) where
         ReadsAt b.opened.script b.standing b.at st (refusal k p) →
         Step b (submit n) (refused (by_reading k p) None) (reach st.end b)
     accepts : {b : State} {n : ℕ} {st : Statement} {k : StatementKind} {E P : Term} {v : Option Term} {m : ℕ} → Judging b n st k E →
-        Derivation S (entries_of b.standing) (rule_kind k) E P v m → m ≤ n →
+        Derivation S (entries_of b.standing) k E P v m → m ≤ n →
         Step b (submit n) (verdict (verdict_on b st k P v m)) (charge m (pend (Some (verdict_on b st k P v m)) (reach st.end b)))
     refuses : {b : State} {n : ℕ} {st : Statement} {k : StatementKind} {E : Term} {f : Refusal} {m : ℕ} → Judging b n st k E →
-        Refusing S (entries_of b.standing) (rule_kind k) E f m → m ≤ n →
+        Refusing S (entries_of b.standing) k E f m → m ≤ n →
         Step b (submit n) (refused (by_judging f m) None) (charge m (reach st.end b))
     spends : {b : State} {n : ℕ} {st : Statement} {k : StatementKind} {E : Term} → Judging b n st k E →
-        Overrun S (entries_of b.standing) (rule_kind k) E n →
+        Overrun S (entries_of b.standing) k E n →
         Step b (submit n) (refused (by_budget st.at n) None) (charge n b)
 
   -- a list of calls, each where the last stopped, with their answers

@@ -10,7 +10,7 @@ use Rattle.rules.specs.Laws.{Wider}
 use Rattle.rules.specs.Statement.{Derivation, Refusing}
 use Rattle.grammar.specs.Grammar.{tree}
 use Rattle.ledger.specs.State.{Standing, Verdict, Opened, State, new, entries_of, next_at, ReadsAt, used, unsized}
-use Rattle.ledger.specs.Calls.{Token, same_numbers, Call, submit, handed_in, Answer, accepted, verdict, refused, Refused, by_book, by_judging, rule_kind, Judging, Step, Run}
+use Rattle.ledger.specs.Calls.{Token, same_numbers, Call, submit, handed_in, Answer, accepted, verdict, refused, Refused, by_book, by_judging, Judging, Step, Run}
 
 -- the statement of an entry: the script says it at some place, and its names, read by the entries es
 -- before it, make it one about E
@@ -90,28 +90,28 @@ module _ (S : System) where
   abbrev pub Grounded : Type 0
   Grounded = (o : Opened) (xs : List Call) (ys : List Answer) (b : State) → Run S (new o) xs ys b →
       (es later : List Standing) (e : Standing) → b.standing ≡ es ++ (e ∷ later) →
-      (E : Term) × Says o.script es e E × ((n : ℕ) × Derivation S (entries_of es) (rule_kind e.kind) E e.type e.value n)
+      (E : Term) × Says o.script es e E × ((n : ℕ) × Derivation S (entries_of es) e.kind E e.type e.value n)
 
   -- a statement that gets as far as judging is accepted exactly when some derivation of it from the
   -- entries then standing costs at most its budget
   abbrev pub Accepting : Type 0
   Accepting = (b : State) (n : ℕ) (st : Statement) (k : StatementKind) (E : Term) → Judging b n st k E →
       ((v : Verdict) × (c : State) × Step S b (submit n) (verdict v) c)
-      ↔ ((P : Term) × (v : Option Term) × (m : ℕ) × Derivation S (entries_of b.standing) (rule_kind k) E P v m × (m ≤ n))
+      ↔ ((P : Term) × (v : Option Term) × (m : ℕ) × Derivation S (entries_of b.standing) k E P v m × (m ≤ n))
 
   -- every verdict has the type, value and cost of such a derivation
   abbrev pub Right : Type 0
   Right = (b c : State) (n : ℕ) (v : Verdict) → Step S b (submit n) (verdict v) c →
       (st : Statement) × (E : Term) × Judging b n st v.kind E × (v.at ≡ st.at) × (v.name ≡ st.name)
-      × Derivation S (entries_of b.standing) (rule_kind v.kind) E v.type v.value v.cost × (v.cost ≤ n)
+      × Derivation S (entries_of b.standing) v.kind E v.type v.value v.cost × (v.cost ≤ n)
 
   -- refusals 7 to 11 never meet a statement that has a derivation from the entries then standing at any
   -- cost, and come with the number, cost, place and layer that the rules give
   abbrev pub Refusals : Type 0
   Refusals = (b c : State) (n : ℕ) (r : Refused) (t : Option Token) → Step S b (submit n) (refused r t) c → 7 ≤ r.number → r.number ≤ 11 →
       (st : Statement) × (k : StatementKind) × (E : Term) × (f : Refusal) × Judging b n st k E
-      × Refusing S (entries_of b.standing) (rule_kind k) E f r.cost × (r ≡ by_judging f r.cost)
-      × ((P : Term) (v : Option Term) (m : ℕ) → Derivation S (entries_of b.standing) (rule_kind k) E P v m → ⊥)
+      × Refusing S (entries_of b.standing) k E f r.cost × (r ≡ by_judging f r.cost)
+      × ((P : Term) (v : Option Term) (m : ℕ) → Derivation S (entries_of b.standing) k E P v m → ⊥)
 
   -- what gets as far as judging gets a verdict, or one of the refusals 7 to 12 at a cost within its budget
   abbrev pub Judged : Type 0

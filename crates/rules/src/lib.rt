@@ -4,4 +4,3 @@
 
 pub mod laws;
 pub mod refusal;
-pub mod statement;

@@ -4,7 +4,7 @@ ghost use Rattle.rules.specs.Numbers.{number};
 
 // Why: no rule infers a type of this form; a type or a form is of another form than the rule names;
 // two types differ; a type names a binder that is left behind; the system names no sort.
-#[derive(Clone, Copy)]
+#[derive(Clone, Copy, PartialEq, Eq, Debug)]
 pub enum Reason {
     NoRule,
     OtherForm,
@@ -14,7 +14,7 @@ pub enum Reason {
 }
 
 // The part of the checker in which a refusal arises.
-#[derive(Clone, Copy)]
+#[derive(Clone, Copy, PartialEq, Eq, Debug)]
 pub enum Layer {
     Reading,
     Typing,
@@ -23,7 +23,7 @@ pub enum Layer {
 }
 
 // Why, at which place of the script, and in which layer.
-#[derive(Clone, Copy)]
+#[derive(Clone, Copy, PartialEq, Eq, Debug)]
 pub struct Refusal {
     pub reason: Reason,
     pub place: usize,

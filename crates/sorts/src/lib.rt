@@ -27,11 +27,11 @@ impl SortSystem for Lcplus {
     ghost answers = { λ _. lcplus };
 
     fn above(&self, s: u16) -> Option<u16> {
-        if s == 0 { Some(1) } else { None }
+        (s == 0).then_some(1)
     }
 
     fn join(&self, s: u16, t: u16) -> Option<u16> {
-        if s <= 1 && t <= 1 { Some(t) } else { None }
+        (s <= 1 && t <= 1).then_some(t)
     }
 }
 
@@ -43,11 +43,11 @@ impl SortSystem for Ladder {
     ghost answers = { λ _. ladder };
 
     fn above(&self, s: u16) -> Option<u16> {
-        if s < 65_535 { Some(s + 1) } else { None }
+        s.checked_add(1)
     }
 
     fn join(&self, s: u16, t: u16) -> Option<u16> {
-        if s < t { Some(t) } else { Some(s) }
+        Some(s.max(t))
     }
 }
 

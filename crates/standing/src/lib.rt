@@ -7,12 +7,10 @@ ghost use Rattle.standing.specs.Standing.{ReadClosed, ReadBounded, LowNumbers, K
 /// The laws of what is read: its locals are bound, its entries are among those there are and its
 /// sorts are at most 65,535; a statement has one kind by its lexemes and by its words, and a def or
 /// an axiom that is read has a good name that was not yet entered.
-pub fn standing_laws() -> u8
+pub fn standing_laws()
     ensures closed { ReadClosed }
     ensures bounded { ReadBounded }
     ensures low { LowNumbers }
     ensures kinds { KindsAgree }
     ensures named { NamedStatements }
-{
-    1
-}
+{}
