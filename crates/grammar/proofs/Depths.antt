@@ -56,7 +56,7 @@ few_last Ascribe = omega arith
 few_last Let = omega arith
 
 inside : (a b : Bool) → not (a || b) ≡ true → (not a ≡ true) × (not b ≡ true)
-inside true b e = absurd (both_ways false refl e)
+inside true b e = cc
 inside false b e = (refl, e)
 
 -- a closed term of few cells is printable

@@ -83,26 +83,26 @@ module _ (entries : List Name) (end : ℕ) where
   name_still s x (y ∷ u) z v t e w h d = subst (λ y. next_name y ≡ None) w e
 
   ended_not : (s : Steps) → ((v : List Word) → Quiet v → v ≡ []) → ⊥
-  ended_not s h = let e = h (marked Closes ∷ []) refl in let z : ◌≡◌ {A = ℕ} 0 1 = cc in omega arith
+  ended_not s h = let e = h (marked Closes ∷ []) refl in cc
 
   pub frame : (s : Steps) (x : List Word) {z : List Word} {t : Term} → Follows entries end s x (tree t z) → Fair entries end Quiet s → Framed s x z t
   frame s x given f = record { front = []; whole = refl; again = λ v l. given }
   frame s x (ended d) (fair_ending h f) = absurd (ended_not s h)
-  frame s [] (passed e d) f = absurd (both_ways false refl e)
+  frame s [] (passed e d) f = cc
   frame (next m s q) (w ∷ x) (passed e d) (fair_next f g h i) =
       let r = frame s x d f in
       record { front = w ∷ r.front; whole = ap (λ y. w ∷ y) r.whole; again = λ v l. passed e (r.again v l) }
   frame (next m s q) x {z} {t} (turned e d) (fair_next f g h i) =
       let r = frame q x d h in
       record { front = r.front; whole = r.whole; again = λ v l. turned (is_still m q x r.front z v t e r.whole i d l) (r.again v l) }
-  frame s [] (named e d) f = let z : ◌≡◌ {A = ℕ} 0 1 = cc in absurd (omega arith)
+  frame s [] (named e d) f = cc
   frame (a_name k q) (w ∷ x) (named {x = n} e d) (fair_name f g h i) =
       let r = frame (k n) x d (f n) in
       record { front = w ∷ r.front; whole = ap (λ y. w ∷ y) r.whole; again = λ v l. named e (r.again v l) }
   frame (a_name k q) x {z} {t} (nameless e d) (fair_name f g h i) =
       let r = frame q x d h in
       record { front = r.front; whole = r.whole; again = λ v l. nameless (name_still q x r.front z v t e r.whole i d) (r.again v l) }
-  frame s [] (numbered e d) f = let z : ◌≡◌ {A = ℕ} 0 1 = cc in absurd (omega arith)
+  frame s [] (numbered e d) f = cc
   frame (a_number k) (w ∷ x) (numbered {n = n} e d) (fair_number f g) =
       let r = frame (k n) x d (f n) in
       record { front = w ∷ r.front; whole = ap (λ y. w ∷ y) r.whole; again = λ v l. numbered e (r.again v l) }
@@ -139,7 +139,7 @@ name_first (y ∷ b) w a c e = e
 
 nothing_left : (a b : List Word) → [] ≡ a ++ b → b ≡ []
 nothing_left [] b e = sym e
-nothing_left (w ∷ a) b e = let z : ◌≡◌ {A = ℕ} 0 1 = cc in absurd (omega arith)
+nothing_left (w ∷ a) b e = cc
 
 module _ (entries : List Name) (end : ℕ) where
   production_at : (g : Sign) (sc : List Name) (b : List Word) (w : Word) (a c : List Word) → production entries end g sc (b ++ (w ∷ a)) ≡ production entries end g sc (b ++ (w ∷ c))
@@ -211,15 +211,15 @@ module _ (entries : List Name) (end : ℕ) where
   like_at y b w a c e = subst (λ z. Like z (b ++ (w ∷ c))) (sym e) (like_front b (w ∷ a) (w ∷ c) (like_first w a c))
 
   pub stuck : (V : List Word → Type 0) (s : Steps) (x : List Word) {r : Reading} → Follows entries end s x r → (p : ℕ) → r ≡ refusal 3 p → Fair entries end V s → Stuck entries end V s x p
-  stuck V s x given p o f = let z : ◌≡◌ {A = ℕ} 0 1 = cc in absurd (omega arith)
+  stuck V s x given p o f = cc
   stuck V (refuse n q) x refused p o (fair_refuse h) = let e : n ≡ 3 = cc in absurd (h e)
   stuck V s x unfit p o f = record { before = []; after = x; whole = refl; place = cc; stays = λ w rest e c. unfit; can = tt }
   stuck V (ending s) x (ended d) p o (fair_ending h f) =
       let r = stuck V s [] d p o f in
       let n = nothing_left r.before r.after r.whole in
-      record { before = []; after = []; whole = refl; place = r.place ∙ ap (here end) n; stays = λ w rest e c. (let z : ◌≡◌ {A = ℕ} 0 1 = cc in absurd (omega arith)); can = tt }
+      record { before = []; after = []; whole = refl; place = r.place ∙ ap (here end) n; stays = λ w rest e c. (cc); can = tt }
   stuck V s x overrun p o f = record { before = []; after = x; whole = refl; place = cc; stays = λ w rest e c. overrun; can = tt }
-  stuck V s [] (passed e d) p o f = absurd (both_ways false refl e)
+  stuck V s [] (passed e d) p o f = cc
   stuck V (next m s q) (w ∷ x) (passed e d) p o (fair_next f g h i) =
       let r = stuck V s x d p o f in
       let c = complete entries end V s r.before r.can g in
@@ -241,7 +241,7 @@ module _ (entries : List Name) (end : ℕ) where
         stays = λ w rest n c. turned (is_first m r.before w rest c (subst (λ y. is m y ≡ false) (r.whole ∙ ap (λ a. r.before ++ a) n) e)) (r.stays w rest n c);
         can = can_turn entries end V m s q x r.before r.after e r.whole r.can;
       }
-  stuck V s [] (named e d) p o f = let z : ◌≡◌ {A = ℕ} 0 1 = cc in absurd (omega arith)
+  stuck V s [] (named e d) p o f = cc
   stuck V (a_name k q) (w ∷ x) (named {x = n} e d) p o (fair_name f g h i) =
       let r = stuck V (k n) x d p o (f n) in
       let c = complete entries end V (k n) r.before r.can (elim (g n) [ inl j ↦ j | inr j ↦ absurd (j x _ p d o) ]) in
@@ -263,7 +263,7 @@ module _ (entries : List Name) (end : ℕ) where
         stays = λ w rest n c. nameless (name_first r.before w rest c (subst (λ y. next_name y ≡ None) (r.whole ∙ ap (λ a. r.before ++ a) n) e)) (r.stays w rest n c);
         can = can_nameless entries end V k q x r.before r.after e r.whole r.can;
       }
-  stuck V s [] (numbered e d) p o f = let z : ◌≡◌ {A = ℕ} 0 1 = cc in absurd (omega arith)
+  stuck V s [] (numbered e d) p o f = cc
   stuck V (a_number k) (w ∷ x) (numbered {n = n} e d) p o (fair_number f g) =
       let r = stuck V (k n) x d p o (f n) in
       let c = complete entries end V (k n) r.before r.can (g n) in

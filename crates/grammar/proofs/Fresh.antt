@@ -46,7 +46,7 @@ no_longer x (y ∷ es) = by (bytes_eq y x) (no_longer x es)
     by false h = omega arith
 
 shorter : (x : Name) (es : List Name) → has x es ≡ true → length (without x es) < length es
-shorter x [] e = absurd (both_ways false refl e)
+shorter x [] e = cc
 shorter x (y ∷ es) e = by (bytes_eq y x) e (shorter x es)
   where
     by : (b : Bool) → (b || has x es) ≡ true → (has x es ≡ true → length (without x es) < length es) → length (cond b (without x es) (y ∷ without x es)) < suc (length es)

@@ -42,7 +42,7 @@ free_word (Some x) k n e = absurd (both_ways _ n (ap is_name e))
 
 short_word : (t : Bool) → cond t Name NoToken ≡ Name → t ≡ true
 short_word true e = refl
-short_word false e = let z : ◌≡◌ {A = ℕ} 0 1 = cc in absurd (omega arith)
+short_word false e = cc
 
 pub word_good : (w : List ℕ) → AllByRecursion (λ b. word_byte b ≡ true) w → word_kind w ≡ Name → is_ascii_alphabetic (get_or w 0 0) ≡ true → GoodName w
 word_good w h e l =
@@ -82,8 +82,8 @@ with_good s None at n ls h k = k
 with_good s (Some x) at n ls h k = ((λ e. h (ap Some e)), k)
 
 byte_at : (s : List ℕ) (at b : ℕ) (bs : List ℕ) → b ∷ bs ≡ drop at s → get_or s at 0 ≡ b
-byte_at [] zero b bs e = let z : ◌≡◌ {A = ℕ} 0 1 = cc in absurd (omega arith)
-byte_at [] (suc at) b bs e = let z : ◌≡◌ {A = ℕ} 0 1 = cc in absurd (omega arith)
+byte_at [] zero b bs e = cc
+byte_at [] (suc at) b bs e = cc
 byte_at (x ∷ s) zero b bs e = cc
 byte_at (x ∷ s) (suc at) b bs e = byte_at s at b bs e
 

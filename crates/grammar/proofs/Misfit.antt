@@ -82,7 +82,7 @@ module _ (entries : List Name) (end : ℕ) (few : length entries < 2 ^ 64) where
           stays = λ x rest k c. named e (subst₂ (λ b o. Follows entries end (after_name p s b o) (r.before ++ (x ∷ c)) (refusal 3 x.at)) (sym l) (sym f) (r.stays x rest k c));
           can = record { more = c.more; term = c.term; writable = c.writable; reads = λ v h. named e (subst₂ (λ b o. Follows entries end (after_name p s b o) (r.before ++ (c.more ++ v)) (tree c.term v)) (sym l) (sym f) (c.reads v h)) };
         }
-    named_stuck w y n true (Some m) i e l f refused q j = let z : ◌≡◌ {A = ℕ} 5 3 = cc in absurd (omega arith)
+    named_stuck w y n true (Some m) i e l f refused q j = cc
     named_stuck w y n false o i e l f refused q j =
         record {
           before = [];
@@ -97,7 +97,7 @@ module _ (entries : List Name) (end : ℕ) (few : length entries < 2 ^ 64) where
         }
 
     new_stuck : (y : List Word) {r : Reading} → p ≡ here end y → Follows entries end (new_name entries p s) y r → (q : ℕ) → r ≡ refusal 3 q → Stuck entries end Nothing (new_name entries p s) y q
-    new_stuck [] i (named e d) q j = let z : ◌≡◌ {A = ℕ} 0 1 = cc in absurd (omega arith)
+    new_stuck [] i (named e d) q j = cc
     new_stuck (w ∷ y) i (named {x = n} e d) q j = named_stuck w y n (is_ascii_alphabetic (get_or n 0 0)) (find_entry n entries) i e refl refl d q j
     new_stuck y i (nameless e unfit) q j =
         record { before = []; after = y; whole = refl; place = cc; stays = λ w rest k c. nameless (subst (λ y. next_name y ≡ None) k e) unfit; can = tt }
@@ -150,12 +150,12 @@ module _ (entries : List Name) (end : ℕ) (few : length entries < 2 ^ 64) where
   read_not {r} ws {q} k e d i (of_kind {k = m} f h) j =
       let o : m ≡ k = cc in
       let u : r ≡ q = unique entries end d (subst (λ k. Follows entries end (statement k entries (name_place end ws)) (past ws) q) o h) in
-      let z : ◌≡◌ {A = ℕ} 0 1 = cc in omega arith
-  read_not ws k e d i (of_none f) j = let z : ◌≡◌ {A = ℕ} 0 1 = cc in omega arith
+      cc
+  read_not ws k e d i (of_none f) j = cc
 
   none_not : {q : Reading} {t : Term} {us : List Word} (ws : List Word) → kind_of ws ≡ None → States entries end ws q → q ≡ tree t us → ⊥
-  none_not ws e (of_kind f h) j = let z : ◌≡◌ {A = ℕ} 0 1 = cc in omega arith
-  none_not ws e (of_none f) j = let z : ◌≡◌ {A = ℕ} 0 1 = cc in omega arith
+  none_not ws e (of_kind f h) j = cc
+  none_not ws e (of_none f) j = cc
 
   by_reading : (ws : List Word) {r : Reading} (p : ℕ) → States entries end ws r → r ≡ refusal 3 p → Misfit entries end ws p
   by_reading ws p (of_none e) j =
@@ -168,7 +168,7 @@ module _ (entries : List Name) (end : ℕ) (few : length entries < 2 ^ 64) where
         can = record { more = put (first CheckWord) 0 ∷ d.more; term = d.term; writable = (tt, d.writable); reads = d.reads };
         cannot = λ w rest k more us t c. none_not (w ∷ more) (subst (λ y. kind_of y ≡ None) k e) c refl;
       }
-  by_reading [] p (of_kind e d) j = let z : ◌≡◌ {A = ℕ} 0 1 = cc in absurd (omega arith)
+  by_reading [] p (of_kind e d) j = cc
   by_reading (w ∷ y) p (of_kind {k = k} e d) j =
       let r = statement_stuck k y d p j in
       record {

@@ -12,18 +12,6 @@ use Rattle.grammar.specs.Statements.{kind_of, name_place, statement, States, One
 use Rattle.grammar.specs.Statements.States.{of_kind, of_none}
 use Rattle.grammar.specs.Reader.{by_test, by_found, on_from, follow, reading, OneReading}
 
-same_some : {A : Type 0} {m : Option A} {x y : A} → m ≡ Some x → m ≡ Some y → x ≡ y
-same_some p q = cc
-
-not_both : {A : Type 0} {m : Option A} {x : A} → m ≡ Some x → m ≡ None → ⊥
-not_both p q = let z : ◌≡◌ {A = ℕ} 0 1 = cc in omega arith
-
-tree_same : {t u : Term} {ws us : List Word} → tree t ws ≡ tree u us → (t ≡ u) × (ws ≡ us)
-tree_same e = (cc, cc)
-
-tree_not : {t : Term} {ws : List Word} {n p : ℕ} → tree t ws ≡ refusal n p → ⊥
-tree_not e = let z : ◌≡◌ {A = ℕ} 0 1 = cc in omega arith
-
 module _ (entries : List Name) (end : ℕ) where
   pub unique : {s : Steps} {ws : List Word} {r : Reading} → Follows entries end s ws r → {q : Reading} → Follows entries end s ws q → r ≡ q
   unique given given = refl
@@ -32,22 +20,22 @@ module _ (entries : List Name) (end : ℕ) where
   unique overrun overrun = refl
   unique unfit unfit = refl
   unique (passed e d) (passed e' d') = unique d d'
-  unique (passed e d) (turned e' d') = absurd (both_ways _ e' e)
-  unique (turned e d) (passed e' d') = absurd (both_ways _ e e')
+  unique (passed e d) (turned e' d') = cc
+  unique (turned e d) (passed e' d') = cc
   unique (turned e d) (turned e' d') = unique d d'
-  unique {ws = ws} (named {f = f} e d) {q} (named e' d') = unique d (subst (λ x. Follows entries end (f x) (past ws) q) (same_some e' e) d')
-  unique (named e d) (nameless e' d') = absurd (not_both e e')
-  unique (nameless e d) (named e' d') = absurd (not_both e' e)
+  unique {ws = ws} (named {f = f} e d) {q} (named e' d') = unique d (subst (λ x. Follows entries end (f x) (past ws) q) (cc) d')
+  unique (named e d) (nameless e' d') = cc
+  unique (nameless e d) (named e' d') = cc
   unique (nameless e d) (nameless e' d') = unique d d'
-  unique {ws = ws} (numbered {f = f} e d) {q} (numbered e' d') = unique d (subst (λ x. Follows entries end (f x) (past ws) q) (same_some e' e) d')
-  unique (numbered e d) (numberless e') = absurd (not_both e e')
-  unique (numberless e) (numbered e' d') = absurd (not_both e' e)
+  unique {ws = ws} (numbered {f = f} e d) {q} (numbered e' d') = unique d (subst (λ x. Follows entries end (f x) (past ws) q) (cc) d')
+  unique (numbered e d) (numberless e') = cc
+  unique (numberless e) (numbered e' d') = cc
   unique (numberless e) (numberless e') = refl
   unique (parted {f = f} d k) {q} (parted d' k') =
-      let e = tree_same (sym (unique d d')) in
-      unique k (subst₂ (λ t us. Follows entries end (f t) us q) e.0 e.1 k')
-  unique (parted d k) (broken d') = absurd (tree_not (unique d d'))
-  unique (broken d) (parted d' k') = absurd (tree_not (sym (unique d d')))
+      let e = unique d d' in
+      unique k (subst₂ (λ t us. Follows entries end (f t) us q) (cc) (cc) k')
+  unique (parted d k) (broken d') = cc (unique d d')
+  unique (broken d) (parted d' k') = cc (unique d d')
   unique (broken d) (broken d') = unique d d'
 
   -- a reading that is found is one by the relation
@@ -64,26 +52,26 @@ module _ (entries : List Name) (end : ℕ) where
 
   at_number : (f : ℕ → Steps) (ws : List Word) (b : Option ℕ) (x : ℕ → Option Reading) → next_number ws ≡ b → ((n : ℕ) → Told (f n) (past ws) (x n)) → Told (a_number f) ws (by_found b x (λ u. Some (refusal 3 (here end ws))))
   at_number f ws (Some n) x e h = λ r g. numbered e (h n r g)
-  at_number f ws None x e h = λ r g. subst (Follows entries end (a_number f) ws) (same_some refl g) (numberless e)
+  at_number f ws None x e h = λ r g. subst (Follows entries end (a_number f) ws) (cc) (numberless e)
 
   at_part : (g : Sign) (sc : List Name) (f : Term → Steps) (ws : List Word) (o : Option Reading) (x : Term → List Word → Option Reading) → Told (production entries end g sc ws) ws o → ((t : Term) (us : List Word) → Told (f t) us (x t us)) → Told (part g sc f) ws (on_from o x)
-  at_part g sc f ws None x h k = λ r e. absurd (not_both e refl)
+  at_part g sc f ws None x h k = λ r e. cc
   at_part g sc f ws (Some (tree t us)) x h k = λ r e. parted (h (tree t us) refl) (k t us r e)
-  at_part g sc f ws (Some (refusal n p)) x h k = λ r e. subst (Follows entries end (part g sc f) ws) (same_some refl e) (broken (h (refusal n p) refl))
+  at_part g sc f ws (Some (refusal n p)) x h k = λ r e. subst (Follows entries end (part g sc f) ws) (cc) (broken (h (refusal n p) refl))
 
   follow_told : (ask : Sign → List Name → List Word → Option Reading) → ((g : Sign) (sc : List Name) (ws : List Word) → Told (production entries end g sc ws) ws (ask g sc ws)) → (s : Steps) (ws : List Word) → Told s ws (follow entries end ask s ws)
-  follow_told ask h (give t) ws = λ r e. subst (Follows entries end (give t) ws) (same_some refl e) given
-  follow_told ask h (refuse n p) ws = λ r e. subst (Follows entries end (refuse n p) ws) (same_some refl e) refused
+  follow_told ask h (give t) ws = λ r e. subst (Follows entries end (give t) ws) (cc) given
+  follow_told ask h (refuse n p) ws = λ r e. subst (Follows entries end (refuse n p) ws) (cc) refused
   follow_told ask h (ending s) [] = λ r e. ended (follow_told ask h s [] r e)
-  follow_told ask h (ending s) (w ∷ ws) = λ r e. subst (Follows entries end (ending s) (w ∷ ws)) (same_some refl e) overrun
-  follow_told ask h misfit ws = λ r e. subst (Follows entries end misfit ws) (same_some refl e) unfit
+  follow_told ask h (ending s) (w ∷ ws) = λ r e. subst (Follows entries end (ending s) (w ∷ ws)) (cc) overrun
+  follow_told ask h misfit ws = λ r e. subst (Follows entries end misfit ws) (cc) unfit
   follow_told ask h (next m s z) ws = at_test m s z ws (is m ws) _ _ refl (follow_told ask h s (past ws)) (follow_told ask h z ws)
   follow_told ask h (a_name f z) ws = at_name f z ws (next_name ws) _ _ refl (λ n. follow_told ask h (f n) (past ws)) (follow_told ask h z ws)
   follow_told ask h (a_number f) ws = at_number f ws (next_number ws) _ refl (λ n. follow_told ask h (f n) (past ws))
   follow_told ask h (part g sc f) ws = at_part g sc f ws (ask g sc ws) _ (h g sc ws) (λ t us. follow_told ask h (f t) us)
 
   pub reading_told : (n : ℕ) (g : Sign) (sc : List Name) (ws : List Word) (r : Reading) → reading entries end n g sc ws ≡ Some r → Reads entries end g sc ws r
-  reading_told zero g sc ws r e = absurd (not_both e refl)
+  reading_told zero g sc ws r e = cc
   reading_told (suc n) g sc ws r e = follow_told (reading entries end n) (reading_told n) (production entries end g sc ws) ws r e
 
 -- how many signs may open before a word is passed
@@ -116,15 +104,15 @@ Eats (a_number f) = Unit {0}
 Eats (part g sc f) = Passing g
 
 past_mark : (m : Mark) (ws : List Word) → is m ws ≡ true → length (past ws) < length ws
-past_mark m [] e = absurd (both_ways false refl e)
+past_mark m [] e = cc
 past_mark m (w ∷ ws) e = omega arith
 
 past_name : (ws : List Word) (x : Name) → next_name ws ≡ Some x → length (past ws) < length ws
-past_name [] x e = absurd (not_both e refl)
+past_name [] x e = cc
 past_name (w ∷ ws) x e = omega arith
 
 past_number : (ws : List Word) (x : ℕ) → next_number ws ≡ Some x → length (past ws) < length ws
-past_number [] x e = absurd (not_both e refl)
+past_number [] x e = cc
 past_number (w ∷ ws) x e = omega arith
 
 module _ (entries : List Name) (end : ℕ) where
@@ -224,7 +212,7 @@ module _ (entries : List Name) (end : ℕ) where
   some_found None x y h k = k
 
   some_on : (o : Option Reading) (x : Term → List Word → Option Reading) → Answered o → ((t : Term) (us : List Word) → o ≡ Some (tree t us) → Answered (x t us)) → Answered (on_from o x)
-  some_on None x h k = absurd (not_both h.1 refl)
+  some_on None x h k = cc
   some_on (Some (tree t us)) x h k = k t us refl
   some_on (Some (refusal n p)) x h k = (refusal n p, refl)
 
@@ -267,12 +255,12 @@ one_following entries end s ws =
 
 module _ (entries : List Name) (end : ℕ) (ws : List Word) where
   none_same : kind_of ws ≡ None → (q : Reading) → States entries end ws q → q ≡ refusal 3 (here end ws)
-  none_same e q (of_kind f d) = absurd (not_both f e)
+  none_same e q (of_kind f d) = cc
   none_same e q (of_none f) = refl
 
   kind_same : {k : StatementKind} {r : Reading} → kind_of ws ≡ Some k → ((q : Reading) → Follows entries end (statement k entries (name_place end ws)) (past ws) q → q ≡ r) → (q : Reading) → States entries end ws q → q ≡ r
-  kind_same e h q (of_kind f d) = h q (subst (λ k. Follows entries end (statement k entries (name_place end ws)) (past ws) q) (same_some f e) d)
-  kind_same e h q (of_none f) = absurd (not_both e f)
+  kind_same e h q (of_kind f d) = h q (subst (λ k. Follows entries end (statement k entries (name_place end ws)) (past ws) q) (cc) d)
+  kind_same e h q (of_none f) = cc
 
   stated : (o : Option StatementKind) → kind_of ws ≡ o → (r : Reading) × States entries end ws r × ((q : Reading) → States entries end ws q → q ≡ r)
   stated None e = (refusal 3 (here end ws), of_none e, none_same e)

@@ -49,7 +49,7 @@ words_past s at w r e h l =
     ∙ ap₂ (λ f bs. words_of 0 f bs (at + length w)) (no_start s at w r e h l) (sym (drop-drop (length w) at s) ∙ ap (drop (length w)) e ∙ drop-append_seam w r)
 
 some_text : (ps : List Item) (r : List ℕ) (at : ℕ) → begins (laid width (λ p. []) ps at) ≡ true → Sound ps r → 0 < length (bytes ps)
-some_text [] r at e h = absurd (both_ways false refl e)
+some_text [] r at e h = cc
 some_text (space ∷ ps) r at e h = omega arith
 some_text (shown x ∷ ps) r at e h = omega (arith, length-append (spelled x) (bytes ps), ap length h.0.spells)
 

@@ -58,7 +58,7 @@ scan (shown x ∷ ps) r at h =
 
 -- at a line's start too, as no item is a comment
 pub scan_fresh : (ps : List Item) (r : List ℕ) (at : ℕ) (f : Bool) → begins (laid width (λ p. []) ps at) ≡ true → Sound ps r → words_of 0 f (bytes ps ++ r) at ≡ laid width (λ p. words_of 0 false r p) ps at
-scan_fresh [] r at f e h = absurd (both_ways false refl e)
+scan_fresh [] r at f e h = cc
 scan_fresh (space ∷ ps) r at f e h = scan_space f
   where
     scan_space : (f : Bool) → words_of 0 f (32 ∷ (bytes ps ++ r)) at ≡ laid width (λ p. words_of 0 false r p) (space ∷ ps) at

@@ -45,7 +45,7 @@ module _ (entries : List Name) (end : ℕ) where
   spoken ws us t (of_kind {k = k} e d) i =
       let s = told k (name_place end ws) (past ws) (leads entries end (subst (λ r. Follows entries end (statement k entries (name_place end ws)) (past ws) r) i d)) in
       record { kind = k; begins = e; sentence = s.0; whole = s.1 }
-  spoken ws us t (of_none e) i = let z : ◌≡◌ {A = ℕ} 0 1 = cc in absurd (omega arith)
+  spoken ws us t (of_none e) i = cc
 
   enters : (p : ℕ) (s : Steps) {a b : List Word} {r : Reading} → Enters entries a b → Follows entries end s b r → Follows entries end (new_name entries p s) a r
   enters p s {b = y} {r = r} n d =

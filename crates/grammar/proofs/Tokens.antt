@@ -128,7 +128,7 @@ name_is : (x : List ℕ) → reserved x ≡ None → length x ≤ 64 → bytes_e
 name_is x e l u = ap (λ o. kind_or o (name_kind x)) e ∙ cond-true (leb (length x) 64 && not (bytes_eq x (codes "_"))) _ _ (and_from _ _ (le-leb (length x) 64 l) (ap not u))
 
 pub name_sound : (x r : List ℕ) → quiet r ≡ true → GoodName x → Scans (name x) r
-name_sound [] r q g = absurd (both_ways _ refl g.letter_first)
+name_sound [] r q g = cc
 name_sound (b ∷ w) r q g =
     word_scans b w r q (name (b ∷ w)) Name refl (or_left (is_ascii_alphabetic b) _ g.letter_first) g.word_bytes.1
     (name_is (b ∷ w) g.free g.short (let h = g.letter_first in and_left (eqb b 95) _ (grind (arith, nat_tests)))) refl

@@ -22,7 +22,7 @@ other_token m k (first w) e h = refl
 other_token m k no_token e h = refl
 
 still_token : (m : Mark) (x : Token) → is_token m x ≡ true → ltb (code m) 7 ≡ false → begins_token x ≡ false
-still_token m (name x) e h = absurd (both_ways false refl e)
+still_token m (name x) e h = cc
 still_token m (number n) e h = refl
 still_token m (mark j) e h = subst (λ n. ltb n 7 ≡ false) (sym (eqb-true (code j) (code m) e)) h
 still_token m (first w) e h = refl
@@ -30,13 +30,13 @@ still_token m no_token e h = refl
 
 begin_token : (m : Mark) (x : Token) → is_token m x ≡ true → ltb (code m) 7 ≡ true → begins_token x ≡ true
 begin_token m (name x) e h = refl
-begin_token m (number n) e h = absurd (both_ways false refl e)
+begin_token m (number n) e h = cc
 begin_token m (mark j) e h = subst (λ n. ltb n 7 ≡ true) (sym (eqb-true (code j) (code m) e)) h
-begin_token m (first w) e h = absurd (both_ways false refl e)
-begin_token m no_token e h = absurd (both_ways false refl e)
+begin_token m (first w) e h = cc
+begin_token m no_token e h = cc
 
 no_name_token : (m : Mark) (x : Token) → is_token m x ≡ true → name_in x ≡ None
-no_name_token m (name x) e = absurd (both_ways false refl e)
+no_name_token m (name x) e = cc
 no_name_token m (number n) e = refl
 no_name_token m (mark j) e = refl
 no_name_token m (first w) e = refl
@@ -51,7 +51,7 @@ halts_at m [] e h = refl
 halts_at m (w ∷ a) e h = still_token m w.token e h
 
 starts_at : (m : Mark) (a : List Word) → is m a ≡ true → ltb (code m) 7 ≡ true → begins a ≡ true
-starts_at m [] e h = absurd (both_ways false refl e)
+starts_at m [] e h = cc
 starts_at m (w ∷ a) e h = begin_token m w.token e h
 
 unnamed_at : (m : Mark) (a : List Word) → is m a ≡ true → next_name a ≡ None
@@ -59,15 +59,15 @@ unnamed_at m [] e = refl
 unnamed_at m (w ∷ a) e = no_name_token m w.token e
 
 name_begins : (x : Name) (a : List Word) → next_name a ≡ Some x → begins a ≡ true
-name_begins x [] e = let z : ◌≡◌ {A = ℕ} 0 1 = cc in absurd (omega arith)
+name_begins x [] e = cc
 name_begins x (w ∷ a) e = by w.token e
   where
     by : (y : Token) → name_in y ≡ Some x → begins_token y ≡ true
     by (name y) e = refl
-    by (number n) e = let z : ◌≡◌ {A = ℕ} 0 1 = cc in absurd (omega arith)
-    by (mark j) e = let z : ◌≡◌ {A = ℕ} 0 1 = cc in absurd (omega arith)
-    by (first w) e = let z : ◌≡◌ {A = ℕ} 0 1 = cc in absurd (omega arith)
-    by no_token e = let z : ◌≡◌ {A = ℕ} 0 1 = cc in absurd (omega arith)
+    by (number n) e = cc
+    by (mark j) e = cc
+    by (first w) e = cc
+    by no_token e = cc
 
 differs : {m : Mark} {a b : List Word} → Takes m a b → (k : Mark) → eqb (code m) (code k) ≡ false → is k a ≡ false
 differs {m} {a} (took e) k h = differs_at m k a e h
@@ -84,7 +84,7 @@ named_begins {x} {a} (called e) = name_begins x a e
 called_token : (x : Name) (k : Mark) (y : Token) → name_in y ≡ Some x → is_token k y ≡ false
 called_token x k (name y) e = refl
 called_token x k (number n) e = refl
-called_token x k (mark j) e = let z : ◌≡◌ {A = ℕ} 0 1 = cc in absurd (omega arith)
+called_token x k (mark j) e = cc
 called_token x k (first w) e = refl
 called_token x k no_token e = refl
 

@@ -26,8 +26,8 @@ with_same s None at n ls = refl
 with_same s (Some k) at n ls = refl
 
 pub drop_more : (s : List ℕ) (at b : ℕ) (bs : List ℕ) → b ∷ bs ≡ drop at s → bs ≡ drop (suc at) s
-drop_more [] zero b bs e = let z : ◌≡◌ {A = ℕ} 0 1 = cc in absurd (omega arith)
-drop_more [] (suc at) b bs e = let z : ◌≡◌ {A = ℕ} 0 1 = cc in absurd (omega arith)
+drop_more [] zero b bs e = cc
+drop_more [] (suc at) b bs e = cc
 drop_more (x ∷ s) zero b bs e = cc
 drop_more (x ∷ s) (suc at) b bs e = drop_more s at b bs e
 
