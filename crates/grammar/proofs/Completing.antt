@@ -26,9 +26,7 @@ pub data Joins : Mark → Type 0 where
   by_times : Joins Times
 
 pub joins_not : {m : Mark} → Joins m → (v : List Word) → goes_on v ≡ false → is m v ≡ false
-joins_not by_times v h = (or_parts (is Times v) _ (or_parts (begins v) _ h).1).0
-joins_not by_plus v h = (or_parts (is Plus v) _ (or_parts (is Times v) _ (or_parts (begins v) _ h).1).1).0
-joins_not by_arrow v h = (or_parts (is Plus v) _ (or_parts (is Times v) _ (or_parts (begins v) _ h).1).1).1
+joins_not e v h = grind arith
 
 abbrev pub marked : Mark → Word
 marked m = put (mark m) 0

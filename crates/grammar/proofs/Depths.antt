@@ -1,10 +1,8 @@
 -- How deep a printable term may stand.
-use Rattle.std.proofs.Common.{◌≡◌, ℕ, suc, ◌+◌, ◌*◌, ◌^◌, ◌<◌, ◌≤◌, Bool, true, false, not, ◌||◌, leb, refl, subst, arith}
-use Rattle.std.proofs.lemmas.Bool.{both_ways, leb-false, not-true}
+use Rattle.std.proofs.Common.{◌≡◌, ℕ, suc, ◌+◌, ◌*◌, ◌^◌, ◌<◌, ◌≤◌, Bool, true, not, ◌||◌, leb, subst, arith}
+use Rattle.std.proofs.lemmas.Bool.{leb-false, not-true}
 use Rattle.term.specs.declared.node.Unary.{Unary}
-use Rattle.term.specs.declared.node.Unary.TheVariants.{Fun, Fst, Snd, Inl, Inr}
 use Rattle.term.specs.declared.node.Binary.{Binary}
-use Rattle.term.specs.declared.node.Binary.TheVariants.{Pi, Sigma, Exists, Typed, App, Pair, Pack, Unpack, Sum, Ascribe, Let}
 use Rattle.term.specs.Forms.{binds, binds_last}
 use Rattle.term.specs.Term.{Term, sort, local, entry, unary, binary, choice, cells, any_local, leaving, closed}
 use Rattle.grammar.specs.Text.{Printable}
@@ -36,28 +34,13 @@ Bounded m (binary p b E F) = Bounded m E × Bounded m F
 Bounded m (choice p E F G) = Bounded m E × Bounded m F × Bounded m G
 
 few : (u : Unary) → binds u ≤ 2
-few Fun = omega arith
-few Fst = omega arith
-few Snd = omega arith
-few Inl = omega arith
-few Inr = omega arith
+few u = grind arith
 
 few_last : (b : Binary) → binds_last b ≤ 2
-few_last Pi = omega arith
-few_last Sigma = omega arith
-few_last Exists = omega arith
-few_last Typed = omega arith
-few_last App = omega arith
-few_last Pair = omega arith
-few_last Pack = omega arith
-few_last Unpack = omega arith
-few_last Sum = omega arith
-few_last Ascribe = omega arith
-few_last Let = omega arith
+few_last b = grind arith
 
 inside : (a b : Bool) → not (a || b) ≡ true → (not a ≡ true) × (not b ≡ true)
-inside true b e = cc
-inside false b e = (refl, e)
+inside a b e = grind arith
 
 -- a closed term of few cells is printable
 pub printable : (m d : ℕ) (t : Term) → d + 2 * cells t < 2 ^ 64 → closed d t ≡ true → Bounded m t → Printable m d t

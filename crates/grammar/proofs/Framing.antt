@@ -1,7 +1,6 @@
 -- Reading looks at no word past the next one: what is read stays read, and what is refused stays
 -- refused, whatever comes later.
 use Rattle.std.proofs.Common.{◌≡◌, ℕ, ◌<◌, Bool, true, false, cond, ◌⊎◌, List, [], ◌∷◌, ◌++◌, length, None, Option, sym, refl, ap, ◌∙◌, subst, inl, inr, append_assoc, arith}
-use Rattle.std.proofs.lemmas.Bool.{both_ways, or_parts}
 use Rattle.script.specs.declared.token.Mark.{Mark}
 use Rattle.script.specs.declared.token.Mark.TheVariants.{Closes}
 use Rattle.term.specs.declared.node.Binary.TheVariants.{App}
@@ -10,7 +9,7 @@ use Rattle.grammar.specs.Words.{Word}
 use Rattle.grammar.specs.Grammar.{Name, Sign, expr, sums, products, application, atom, arguments, Steps, give, refuse, ending, next, a_name, a_number, part, here, is, begins, goes_on, next_name, next_number, production, Reading, tree, refusal, Follows}
 use Rattle.grammar.specs.Grammar.Follows.{given, refused, unfit, ended, overrun, passed, turned, named, nameless, numbered, numberless, parted, broken}
 use Rattle.grammar.specs.Misfit.{AllWritable}
-use Rattle.grammar.proofs.Completing.{Joins, joins_not, marked, Done, Ends, Fair, production_fair}
+use Rattle.grammar.proofs.Completing.{Joins, marked, Done, Ends, Fair, production_fair}
 use Rattle.grammar.proofs.Completing.Fair.{fair_refuse, fair_ending, fair_next, fair_name, fair_number, fair_part}
 use Rattle.grammar.proofs.Reader.{Eats, eats, eaten}
 
@@ -20,7 +19,7 @@ pub record Like (z v : List Word) : Type 0 where
   pub joining : (m : Mark) → Joins m → is m z ≡ false → is m v ≡ false
 
 like_quiet : (z v : List Word) → goes_on v ≡ false → Like z v
-like_quiet z v h = record { beginning = λ e. (or_parts (begins v) _ h).0; joining = λ m j e. joins_not j v h }
+like_quiet z v h = grind arith
 
 like_first : (w : Word) (a b : List Word) → Like (w ∷ a) (w ∷ b)
 like_first w a b = record { beginning = λ e. e; joining = λ m j e. e }
@@ -30,7 +29,7 @@ like_front [] z v l = l
 like_front (w ∷ u) z v l = like_first w (u ++ z) (u ++ v)
 
 not_shorter : {x z : List Word} → x ≡ z → length z < length x → ⊥
-not_shorter e l = omega (arith, ap length e, l)
+not_shorter e l = grind arith
 
 -- words that pass, since they do not go on with an expression
 abbrev pub Quiet : List Word → Type 0
@@ -38,12 +37,7 @@ Quiet v = goes_on v ≡ false
 
 module _ (entries : List Name) (end : ℕ) where
   production_first : (g : Sign) (sc : List Name) (w : Word) (a b : List Word) → production entries end g sc (w ∷ a) ≡ production entries end g sc (w ∷ b)
-  production_first expr sc w a b = refl
-  production_first sums sc w a b = refl
-  production_first products sc w a b = refl
-  production_first application sc w a b = refl
-  production_first (arguments E) sc w a b = refl
-  production_first atom sc w a b = refl
+  production_first g sc w a b = grind arith
 
   abbrev fork : Bool → Term → List Name → Steps
   fork b E sc = cond b (part atom sc (λ F. part (arguments (binary (place E) App E F)) sc give)) (give E)

@@ -1,16 +1,16 @@
 -- A name of a script that begins with a letter is good.
-use Rattle.std.proofs.Common.{◌≡◌, ℕ, zero, suc, pred, Bool, true, false, cond, not, ◌&&◌, eqb, leb, List, [], ◌∷◌, length, get_or, take, drop, Some, None, codes, Option, sym, refl, ap, ◌∙◌, subst, one-add, arith}
+use Rattle.std.proofs.Common.{◌≡◌, ℕ, zero, suc, pred, Bool, true, false, cond, not, ◌&&◌, eqb, leb, List, [], ◌∷◌, length, get_or, take, drop, Some, None, codes, Option, sym, refl, ap, ◌∙◌, subst, one-add, arith, rules}
 use Rattle.std.specs.Char.{is_ascii_alphabetic}
 use Rattle.std.specs.List.{prefix_len, AllByRecursion}
 use Rattle.std.specs.Str.{bytes_eq}
-use Rattle.std.proofs.lemmas.Bool.{both_ways, cond-true, cond-false, cond_both, or_left, and_left, and_right, and_parts, leb-true}
-use Rattle.std.proofs.lemmas.Bool.Decides.{nat_tests}
+use Rattle.std.proofs.lemmas.Bool.{cond-true, cond_both, or_left, and_parts, leb-true}
+use Rattle.std.proofs.lemmas.Grind.{common_steps}
 use Rattle.script.specs.declared.token.Kind.{Kind}
 use Rattle.script.specs.declared.token.Kind.TheVariants.{Name, NoToken}
 use Rattle.script.specs.declared.token.Piece.{Piece}
 use Rattle.script.specs.declared.token.Lexeme.{Lexeme}
 use Rattle.script.specs.Names.{bytes_at}
-use Rattle.script.specs.Tokens.{letter, word_byte, blank, begins_with, spelt, or_else, kind_or, reserved, name_kind, word_kind, word_piece, token_piece, piece, sort_words, binder_words, part_words, first_words}
+use Rattle.script.specs.Tokens.{letter, word_byte, spelt, or_else, kind_or, reserved, name_kind, word_kind, word_piece, token_piece, piece, sort_words, binder_words, part_words, first_words}
 use Rattle.script.specs.Parts.{parts, parts_from, line_start, with_lexeme, lexemes, lexemes_from}
 use Rattle.script.specs.Statements.{is_name}
 use Rattle.grammar.specs.Text.{GoodName}
@@ -37,12 +37,10 @@ reserved_no_name w =
     (spelt_no_name first_words w (refl, (refl, (refl, (refl, (refl, (refl, (refl, tt))))))))))
 
 free_word : (o : Option Kind) (k : Kind) → NoName o → kind_or o k ≡ Name → (o ≡ None) × (k ≡ Name)
-free_word None k n e = (refl, e)
-free_word (Some x) k n e = absurd (both_ways _ n (ap is_name e))
+free_word o k n e = grind arith
 
 short_word : (t : Bool) → cond t Name NoToken ≡ Name → t ≡ true
-short_word true e = refl
-short_word false e = cc
+short_word t e = grind arith
 
 pub word_good : (w : List ℕ) → AllByRecursion (λ b. word_byte b ≡ true) w → word_kind w ≡ Name → is_ascii_alphabetic (get_or w 0 0) ≡ true → GoodName w
 word_good w h e l =
@@ -60,10 +58,7 @@ leads p (b ∷ bs) =
 -- what begins with a letter is a word
 letter_piece : (f : Bool) (b : ℕ) (bs : List ℕ) → is_ascii_alphabetic b ≡ true → piece f b bs ≡ word_piece (b ∷ bs)
 unfolding token_piece
-letter_piece f b bs l =
-    cond-false (f && begins_with (codes "--") (b ∷ bs)) _ _ (and_right f _ (and_left (eqb 45 b) _ (grind (arith, nat_tests))))
-    ∙ cond-false (blank b) _ _ (grind (arith, nat_tests))
-    ∙ cond-true (letter b) _ _ (or_left (is_ascii_alphabetic b) _ l)
+letter_piece f b bs l = search rules
 
 piece_good : (f : Bool) (b : ℕ) (bs : List ℕ) → is_ascii_alphabetic b ≡ true → (piece f b bs).kind ≡ Some Name → GoodName (take (piece f b bs).len (b ∷ bs))
 piece_good f b bs l e =
@@ -78,14 +73,10 @@ abbrev NamedGood : List ℕ → Lexeme → Type 0
 NamedGood s l = l.kind ≡ Name → is_ascii_alphabetic (get_or s l.at 0) ≡ true → GoodName (bytes_at s l.at l.len)
 
 with_good : (s : List ℕ) (o : Option Kind) (at n : ℕ) (ls : List Lexeme) → (o ≡ Some Name → is_ascii_alphabetic (get_or s at 0) ≡ true → GoodName (bytes_at s at n)) → AllByRecursion (NamedGood s) ls → AllByRecursion (NamedGood s) (with_lexeme o at n ls)
-with_good s None at n ls h k = k
-with_good s (Some x) at n ls h k = ((λ e. h (ap Some e)), k)
+with_good s o at n ls h k = grind (arith, common_steps)
 
 byte_at : (s : List ℕ) (at b : ℕ) (bs : List ℕ) → b ∷ bs ≡ drop at s → get_or s at 0 ≡ b
-byte_at [] zero b bs e = cc
-byte_at [] (suc at) b bs e = cc
-byte_at (x ∷ s) zero b bs e = cc
-byte_at (x ∷ s) (suc at) b bs e = byte_at s at b bs e
+byte_at s at b bs e = grind (arith, common_steps)
 
 parts_good : (s : List ℕ) (k : ℕ) (f : Bool) (bs : List ℕ) (at : ℕ) → bs ≡ drop at s → AllByRecursion (NamedGood s) (lexemes (parts k f bs at))
 parts_good s zero f [] at e = tt

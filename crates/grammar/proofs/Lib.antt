@@ -12,7 +12,6 @@ pub mod Tokens
 pub mod Sound
 pub mod RoundTrip
 pub mod Good
-pub mod Lookups
 pub mod Fresh
 pub mod Completing
 pub mod Framing

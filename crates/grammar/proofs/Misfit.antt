@@ -154,8 +154,7 @@ module _ (entries : List Name) (end : ℕ) (few : length entries < 2 ^ 64) where
   read_not ws k e d i (of_none f) j = cc
 
   none_not : {q : Reading} {t : Term} {us : List Word} (ws : List Word) → kind_of ws ≡ None → States entries end ws q → q ≡ tree t us → ⊥
-  none_not ws e (of_kind f h) j = cc
-  none_not ws e (of_none f) j = cc
+  none_not ws e h j = grind arith
 
   by_reading : (ws : List Word) {r : Reading} (p : ℕ) → States entries end ws r → r ≡ refusal 3 p → Misfit entries end ws p
   by_reading ws p (of_none e) j =

@@ -1,6 +1,5 @@
 -- A list of words has one reading, and the function finds it.
-use Rattle.std.proofs.Common.{◌≡◌, ℕ, zero, suc, ◌+◌, ◌*◌, ◌<◌, ◌≤◌, Bool, true, false, cond, List, [], ◌∷◌, length, Some, None, Option, sym, refl, ap, ◌∙◌, subst, subst₂, arith}
-use Rattle.std.proofs.lemmas.Bool.{both_ways}
+use Rattle.std.proofs.Common.{◌≡◌, ℕ, zero, suc, ◌+◌, ◌*◌, ◌<◌, ◌≤◌, Bool, true, false, cond, List, [], ◌∷◌, length, Some, None, Option, refl, subst, subst₂, arith}
 use Rattle.script.specs.declared.token.Mark.{Mark}
 use Rattle.script.specs.declared.statement.StatementKind.{StatementKind}
 use Rattle.term.specs.declared.node.Binary.TheVariants.{App}
@@ -104,16 +103,13 @@ Eats (a_number f) = Unit {0}
 Eats (part g sc f) = Passing g
 
 past_mark : (m : Mark) (ws : List Word) → is m ws ≡ true → length (past ws) < length ws
-past_mark m [] e = cc
-past_mark m (w ∷ ws) e = omega arith
+past_mark m ws e = grind arith
 
 past_name : (ws : List Word) (x : Name) → next_name ws ≡ Some x → length (past ws) < length ws
-past_name [] x e = cc
-past_name (w ∷ ws) x e = omega arith
+past_name ws x e = grind arith
 
 past_number : (ws : List Word) (x : ℕ) → next_number ws ≡ Some x → length (past ws) < length ws
-past_number [] x e = cc
-past_number (w ∷ ws) x e = omega arith
+past_number ws x e = grind arith
 
 module _ (entries : List Name) (end : ℕ) where
   pub eats : (g : Sign) (sc : List Name) (ws : List Word) → Passing g → Eats (production entries end g sc ws)
@@ -157,12 +153,7 @@ data Safe (n : ℕ) : ℕ → Steps → Type 0 where
   at_a_part : {l : ℕ} {g : Sign} {sc : List Name} {f : Term → Steps} → 8 * l + weight g < n → ((t : Term) (k : ℕ) → k ≤ l → (Passing g → k < l) → Safe n k (f t)) → Safe n l (part g sc f)
 
 light : (g : Sign) → weight g ≤ 6
-light expr = omega arith
-light sums = omega arith
-light products = omega arith
-light application = omega arith
-light (arguments E) = omega arith
-light atom = omega arith
+light g = grind arith
 
 safe_all : (s : Steps) (n l : ℕ) → 8 * l + 6 < n → Safe n l s
 safe_all (give t) n l h = at_give
@@ -204,8 +195,7 @@ module _ (entries : List Name) (end : ℕ) where
       (at_next (safe_past n _ o) (at_next (safe_past n _ o) (at_next (safe_past n _ o) at_misfit)))))))
 
   some_test : (b : Bool) (x y : Unit {0} → Option Reading) → (b ≡ true → Answered (x tt)) → Answered (y tt) → Answered (by_test b x y)
-  some_test true x y h k = h refl
-  some_test false x y h k = k
+  some_test b x y h k = grind arith
 
   some_found : {A : Type 0} (b : Option A) (x : A → Option Reading) (y : Unit {0} → Option Reading) → ((a : A) → b ≡ Some a → Answered (x a)) → Answered (y tt) → Answered (by_found b x y)
   some_found (Some a) x y h k = h a refl
@@ -234,10 +224,6 @@ module _ (entries : List Name) (end : ℕ) where
   reading_some zero g sc ws h = absurd (omega arith)
   reading_some (suc n) g sc ws h = follow_some n (reading_some n) (production entries end g sc ws) ws (safe g sc ws n h)
 
-  -- with enough nesting the function tells the reading
-  pub reading_reads : (n : ℕ) (g : Sign) (sc : List Name) (ws : List Word) (r : Reading) → 8 * length ws + weight g < n → Reads entries end g sc ws r → reading entries end n g sc ws ≡ Some r
-  reading_reads n g sc ws r h d = let s = reading_some n g sc ws h in s.1 ∙ ap Some (unique entries end (reading_told entries end n g sc ws s.0 s.1) d)
-
 pub one_reading : OneReading
 one_reading entries end g sc ws =
     let n = suc (8 * length ws + weight g) in
@@ -255,12 +241,10 @@ one_following entries end s ws =
 
 module _ (entries : List Name) (end : ℕ) (ws : List Word) where
   none_same : kind_of ws ≡ None → (q : Reading) → States entries end ws q → q ≡ refusal 3 (here end ws)
-  none_same e q (of_kind f d) = cc
-  none_same e q (of_none f) = refl
+  none_same e q h = grind arith
 
   kind_same : {k : StatementKind} {r : Reading} → kind_of ws ≡ Some k → ((q : Reading) → Follows entries end (statement k entries (name_place end ws)) (past ws) q → q ≡ r) → (q : Reading) → States entries end ws q → q ≡ r
-  kind_same e h q (of_kind f d) = h q (subst (λ k. Follows entries end (statement k entries (name_place end ws)) (past ws) q) (cc) d)
-  kind_same e h q (of_none f) = cc
+  kind_same e h q k = grind arith
 
   stated : (o : Option StatementKind) → kind_of ws ≡ o → (r : Reading) × States entries end ws r × ((q : Reading) → States entries end ws q → q ≡ r)
   stated None e = (refusal 3 (here end ws), of_none e, none_same e)

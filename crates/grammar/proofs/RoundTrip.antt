@@ -1,8 +1,9 @@
 -- Printed terms read back as themselves.
-use Rattle.std.proofs.Common.{◌≡◌, ℕ, zero, suc, ◌+◌, ◌-◌, ◌<◌, true, false, ◌||◌, eqb, List, [], ◌∷◌, ◌++◌, length, get_or, drop, sym, refl, ap, ◌∙◌, subst, ap₂, subst₂, arith, length-append}
+use Rattle.std.proofs.Common.{◌≡◌, ℕ, ◌+◌, ◌-◌, ◌<◌, true, false, ◌||◌, eqb, List, [], ◌∷◌, ◌++◌, length, get_or, drop, sym, ap, ◌∙◌, subst, ap₂, subst₂, arith, length-append}
 use lib.Seq.{drop-append_seam}
 use Rattle.std.proofs.lemmas.List.{get_or-drop, drop-drop}
-use Rattle.std.proofs.lemmas.Bool.{both_ways, or_parts, ne_eqb}
+use Rattle.std.proofs.lemmas.Bool.{or_parts, ne_eqb}
+use Rattle.std.proofs.lemmas.Grind.{common_steps}
 use Rattle.script.specs.declared.token.Mark.TheVariants.{Times, Plus}
 use Rattle.script.specs.Parts.{line_start, lexemes_from}
 use Rattle.term.specs.Term.{Term}
@@ -31,9 +32,7 @@ module _ (entries : List Name) (end d at : ℕ) (k : ℕ → List Word) (t : Ter
   }
 
 in_line_at : (w r : List ℕ) (i : ℕ) → InLine w → i < length w → eqb (get_or (w ++ r) i 0) 10 ≡ false
-in_line_at [] r i h l = absurd (omega arith)
-in_line_at (b ∷ w) r zero h l = h.0
-in_line_at (b ∷ w) r (suc i) h l = in_line_at w r i h.1 (omega arith)
+in_line_at w r i h l = grind (arith, common_steps)
 
 -- past a text with no line's end no line starts
 pub no_start : (s : List ℕ) (at : ℕ) (w r : List ℕ) → drop at s ≡ w ++ r → InLine w → 0 < length w → line_start s (at + length w) ≡ false

@@ -1,5 +1,5 @@
 -- What is read as a statement is a sentence, and a sentence is read.
-use Rattle.std.proofs.Common.{◌≡◌, ℕ, Bool, true, false, cond, List, [], get_or, Some, None, Option, sym, refl, subst, subst₂, arith}
+use Rattle.std.proofs.Common.{◌≡◌, ℕ, Bool, true, false, cond, List, [], get_or, Some, None, Option, sym, refl, subst, subst₂}
 use Rattle.std.specs.Char.{is_ascii_alphabetic}
 use Rattle.script.specs.declared.statement.StatementKind.{StatementKind}
 use Rattle.script.specs.declared.statement.StatementKind.TheVariants.{Def, Axiom, Check, Eval}

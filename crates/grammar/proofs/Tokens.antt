@@ -1,11 +1,11 @@
 -- The scanner finds each token that a printed term has.
-use Rattle.std.proofs.Common.{◌≡◌, ℕ, suc, ◌^◌, ◌<◌, ◌≤◌, Bool, true, false, not, ◌&&◌, eqb, leb, List, [], ◌∷◌, ◌++◌, length, get_or, take, None, codes, decimal, refl, ap, ◌∙◌, arith}
+use Rattle.std.proofs.Common.{◌≡◌, ℕ, suc, ◌^◌, ◌<◌, ◌≤◌, Bool, true, false, ◌&&◌, eqb, leb, List, [], ◌∷◌, ◌++◌, length, get_or, take, None, codes, decimal, refl, ap, ◌∙◌, arith}
 use lib.Seq.{take-append_seam}
 use Rattle.std.specs.Str.Parse.{AllDigits, digits_value}
 use Rattle.std.specs.Char.{is_ascii_alphabetic, is_ascii_digit}
 use Rattle.std.specs.List.{prefix_len, AllByRecursion}
 use Rattle.std.specs.Str.{bytes_eq}
-use Rattle.std.proofs.lemmas.Bool.{both_ways, le-leb, cond-true, cond-false, or_left, or_right, and_from, and_left, and_right, and_parts}
+use Rattle.std.proofs.lemmas.Bool.{le-leb, cond-true, cond-false, or_left, and_from, and_left, and_parts}
 use Rattle.std.proofs.lemmas.Bool.Decides.{nat_tests}
 use Rattle.std.proofs.lemmas.Str.Parse.{digit_from_value}
 use Rattle.std.proofs.lemmas.Fmt.{decimal_is_IsNumeral, decimal_nonempty, first_decimal, length-decimal-le}
@@ -13,7 +13,7 @@ use Rattle.script.specs.declared.token.Mark.{Mark}
 use Rattle.script.specs.declared.token.Kind.{Kind}
 use Rattle.script.specs.declared.token.Kind.TheVariants.{Name, Number, Fixed}
 use Rattle.script.specs.declared.token.Piece.{Piece}
-use Rattle.script.specs.Tokens.{letter, blank, word_byte, begins_with, reserved, kind_or, name_kind, word_kind, number_kind, token, token_piece, piece}
+use Rattle.script.specs.Tokens.{letter, blank, word_byte, reserved, word_kind, number_kind, token, token_piece, piece}
 use Rattle.grammar.specs.Words.{Token, name, number, mark, as_token}
 use Rattle.grammar.specs.Text.{binder_name, quiet, GoodName}
 use Rattle.grammar.proofs.Pieces.{spelled}
@@ -24,12 +24,10 @@ leading_all p [] r h e = e
 leading_all p (b ∷ w) r h e = cond-true (p b) _ _ h.0 ∙ omega (arith, leading_all p w r h.1 e)
 
 quiet_word : (r : List ℕ) → quiet r ≡ true → prefix_len word_byte r ≡ 0
-quiet_word [] h = refl
-quiet_word (b ∷ r) h = cond-false (word_byte b) _ _ (grind arith)
+quiet_word r h = grind arith
 
 quiet_digit : (r : List ℕ) → quiet r ≡ true → prefix_len is_ascii_digit r ≡ 0
-quiet_digit [] h = refl
-quiet_digit (b ∷ r) h = cond-false (is_ascii_digit b) _ _ (grind (arith, nat_tests))
+quiet_digit r h = grind arith
 
 -- what a letter or a digit is not
 record Apart (b : ℕ) : Type 0 where
@@ -37,16 +35,16 @@ record Apart (b : ℕ) : Type 0 where
   no_blank : blank b ≡ false
 
 letter_apart : (b : ℕ) → letter b ≡ true → Apart b
-letter_apart b h = record { no_dash = grind (arith, nat_tests); no_blank = grind (arith, nat_tests) }
+letter_apart b h = grind arith
 
 digit_apart : (b : ℕ) → is_ascii_digit b ≡ true → Apart b
-digit_apart b h = record { no_dash = grind (arith, nat_tests); no_blank = grind (arith, nat_tests) }
+digit_apart b h = grind arith
 
 digit_no_letter : (b : ℕ) → is_ascii_digit b ≡ true → letter b ≡ false
 digit_no_letter b h = grind (arith, nat_tests)
 
 digit_word : (b : ℕ) → is_ascii_digit b ≡ true → word_byte b ≡ true
-digit_word b h = or_right (letter b) _ (or_left (is_ascii_digit b) _ h)
+digit_word b h = grind arith
 
 word_line : (w : List ℕ) → AllByRecursion (λ c. word_byte c ≡ true) w → InLine w
 word_line [] h = tt
@@ -58,10 +56,7 @@ all_words (c ∷ ds) h = (digit_word c h.0, all_words ds h.1)
 
 module _ (b : ℕ) (bs : List ℕ) (p : Piece) (f : Bool) (a : Apart b) where
   found_first : token_piece b bs ≡ p → piece f b bs ≡ p
-  found_first h =
-      cond-false (f && begins_with (codes "--") (b ∷ bs)) _ _ (and_right f _ (and_left (eqb 45 b) _ a.no_dash))
-      ∙ cond-false (blank b) _ _ a.no_blank
-      ∙ h
+  found_first h = grind arith
 
 module _ (b : ℕ) (w r : List ℕ) (q : quiet r ≡ true) where
   word_first : letter b ≡ true → AllByRecursion (λ c. word_byte c ≡ true) w → token_piece b (w ++ r) ≡ token (word_kind (b ∷ w)) (suc (length w))
@@ -109,11 +104,7 @@ all_digits (c ∷ ds) h = (let k = digit_from_value c h.0 in and_from (leb 48 c)
 
 -- digits of a positive number, with no needless zero
 number_is : (ds : List ℕ) (n : ℕ) → digits_value 10 ds ≡ n → n ≤ 65535 → 48 < get_or ds 0 0 → number_kind ds ≡ Number n
-number_is [] n e l h = absurd (omega arith)
-number_is (b ∷ []) n e l h = ap Number e
-number_is (b ∷ c ∷ ds) n e l h =
-    cond-true (not (eqb b 48) && leb (digits_value 10 (b ∷ c ∷ ds)) 65535) _ _ (and_from (not (eqb b 48)) _ (grind (arith, nat_tests)) (ap (λ v. leb v 65535) e ∙ le-leb n 65535 l))
-    ∙ ap Number e
+number_is ds n e l h = grind arith
 
 number_by : (ds r : List ℕ) (n : ℕ) → quiet r ≡ true → decimal n ≡ ds → AllByRecursion (λ c. is_ascii_digit c ≡ true) ds → number_kind ds ≡ Number n → 0 < length ds → Scans (number n) r
 number_by [] r n q e h k z = absurd (omega arith)
@@ -125,7 +116,7 @@ number_sound n r z l q =
     number_by (decimal n) r n q refl (all_digits (decimal n) d.0.1) (number_is (decimal n) n d.1 l (first_decimal n z (omega arith))) d.0.0
 
 name_is : (x : List ℕ) → reserved x ≡ None → length x ≤ 64 → bytes_eq x (codes "_") ≡ false → word_kind x ≡ Name
-name_is x e l u = ap (λ o. kind_or o (name_kind x)) e ∙ cond-true (leb (length x) 64 && not (bytes_eq x (codes "_"))) _ _ (and_from _ _ (le-leb (length x) 64 l) (ap not u))
+name_is x e l u = grind arith
 
 pub name_sound : (x r : List ℕ) → quiet r ≡ true → GoodName x → Scans (name x) r
 name_sound [] r q g = cc

@@ -1,73 +1,29 @@
 -- A phrase that nothing goes on with is read.
-use Rattle.std.proofs.Common.{◌≡◌, ℕ, suc, ◌<◌, true, false, eqb, ltb, leb, List, [], ◌∷◌, Some, None, sym, refl, subst, subst₂, arith}
-use Rattle.std.proofs.lemmas.Bool.{both_ways, eqb-true, leb-true, le-leb, lt-leb, ne_eqb, or_parts}
+use Rattle.std.proofs.Common.{◌≡◌, ℕ, ◌<◌, true, false, eqb, ltb, leb, List, None, sym, refl, subst, subst₂, arith, rules}
+use Rattle.std.proofs.lemmas.Bool.{leb-true, le-leb, ne_eqb, or_parts}
 use Rattle.script.specs.declared.token.Mark.{Mark}
 use Rattle.script.specs.declared.token.Mark.TheVariants.{OpensBrace, FstWord, SndWord, InlWord, InrWord, FunWord, PiWord, ForallWord, SigmaWord, ExistsWord, LetWord, Arrow, Plus, Times}
 use Rattle.script.specs.Marks.{code}
 use Rattle.term.specs.Term.{Term, local, entry}
-use Rattle.grammar.specs.Words.{Token, name, number, mark, first, no_token, Word}
-use Rattle.grammar.specs.Grammar.{Name, Sign, expr, sums, products, application, atom, arguments, Steps, next, a_name, meant, find_entry, here, is_token, is, begins_token, begins, name_in, next_name, Reading, tree, Follows, Reads}
+use Rattle.grammar.specs.Words.{Word}
+use Rattle.grammar.specs.Grammar.{Name, Sign, expr, sums, products, application, atom, arguments, Steps, next, a_name, meant, find_entry, here, is, begins, next_name, Reading, tree, Follows, Reads}
 use Rattle.grammar.specs.Grammar.Follows.{given, passed, turned, named, nameless, numbered, parted}
 use Rattle.grammar.specs.Phrases.{Takes, took, Calls, called, counted, Phrase, PhrasesRead}
 use Rattle.grammar.specs.Phrases.Phrase.{a_function, a_typed_function, a_pi, a_forall, a_sigma, an_exists, a_let, a_typed_let, an_unpack, no_arrow, an_arrow, no_plus, a_sum, no_times, a_product}
 use Rattle.grammar.specs.Phrases.Phrase.{by_atom, by_fst, by_snd, by_inl, by_inr, no_more, one_more, a_local, an_entry, a_type, a_prop, a_kind, a_sort, a_group, an_ascription, a_pair, a_pack, a_match, a_turned_match}
 use Rattle.grammar.proofs.Atoms.{plain, no_arguments, argument}
 
--- a word is one mark
-other_token : (m k : Mark) (x : Token) → is_token m x ≡ true → eqb (code m) (code k) ≡ false → is_token k x ≡ false
-other_token m k (name x) e h = refl
-other_token m k (number n) e h = refl
-other_token m k (mark j) e h = subst (λ n. eqb n (code k) ≡ false) (sym (eqb-true (code j) (code m) e)) h
-other_token m k (first w) e h = refl
-other_token m k no_token e h = refl
-
-still_token : (m : Mark) (x : Token) → is_token m x ≡ true → ltb (code m) 7 ≡ false → begins_token x ≡ false
-still_token m (name x) e h = cc
-still_token m (number n) e h = refl
-still_token m (mark j) e h = subst (λ n. ltb n 7 ≡ false) (sym (eqb-true (code j) (code m) e)) h
-still_token m (first w) e h = refl
-still_token m no_token e h = refl
-
-begin_token : (m : Mark) (x : Token) → is_token m x ≡ true → ltb (code m) 7 ≡ true → begins_token x ≡ true
-begin_token m (name x) e h = refl
-begin_token m (number n) e h = cc
-begin_token m (mark j) e h = subst (λ n. ltb n 7 ≡ true) (sym (eqb-true (code j) (code m) e)) h
-begin_token m (first w) e h = cc
-begin_token m no_token e h = cc
-
-no_name_token : (m : Mark) (x : Token) → is_token m x ≡ true → name_in x ≡ None
-no_name_token m (name x) e = cc
-no_name_token m (number n) e = refl
-no_name_token m (mark j) e = refl
-no_name_token m (first w) e = refl
-no_name_token m no_token e = refl
-
 differs_at : (m k : Mark) (a : List Word) → is m a ≡ true → eqb (code m) (code k) ≡ false → is k a ≡ false
-differs_at m k [] e h = refl
-differs_at m k (w ∷ a) e h = other_token m k w.token e h
+differs_at m k a e h = search rules
 
 halts_at : (m : Mark) (a : List Word) → is m a ≡ true → ltb (code m) 7 ≡ false → begins a ≡ false
-halts_at m [] e h = refl
-halts_at m (w ∷ a) e h = still_token m w.token e h
+halts_at m a e h = grind arith
 
 starts_at : (m : Mark) (a : List Word) → is m a ≡ true → ltb (code m) 7 ≡ true → begins a ≡ true
-starts_at m [] e h = cc
-starts_at m (w ∷ a) e h = begin_token m w.token e h
+starts_at m a e h = grind arith
 
 unnamed_at : (m : Mark) (a : List Word) → is m a ≡ true → next_name a ≡ None
-unnamed_at m [] e = refl
-unnamed_at m (w ∷ a) e = no_name_token m w.token e
-
-name_begins : (x : Name) (a : List Word) → next_name a ≡ Some x → begins a ≡ true
-name_begins x [] e = cc
-name_begins x (w ∷ a) e = by w.token e
-  where
-    by : (y : Token) → name_in y ≡ Some x → begins_token y ≡ true
-    by (name y) e = refl
-    by (number n) e = cc
-    by (mark j) e = cc
-    by (first w) e = cc
-    by no_token e = cc
+unnamed_at m a e = grind arith
 
 differs : {m : Mark} {a b : List Word} → Takes m a b → (k : Mark) → eqb (code m) (code k) ≡ false → is k a ≡ false
 differs {m} {a} (took e) k h = differs_at m k a e h
@@ -79,21 +35,10 @@ starts : {m : Mark} {a b : List Word} → Takes m a b → ltb (code m) 7 ≡ tru
 starts {m} {a} (took e) h = starts_at m a e h
 
 named_begins : {x : Name} {a b : List Word} → Calls x a b → begins a ≡ true
-named_begins {x} {a} (called e) = name_begins x a e
-
-called_token : (x : Name) (k : Mark) (y : Token) → name_in y ≡ Some x → is_token k y ≡ false
-called_token x k (name y) e = refl
-called_token x k (number n) e = refl
-called_token x k (mark j) e = cc
-called_token x k (first w) e = refl
-called_token x k no_token e = refl
-
-called_at : (x : Name) (k : Mark) (a : List Word) → next_name a ≡ Some x → is k a ≡ false
-called_at x k [] e = refl
-called_at x k (w ∷ a) e = called_token x k w.token e
+named_begins e = grind arith
 
 called_not : {x : Name} {a b : List Word} → Calls x a b → (k : Mark) → is k a ≡ false
-called_not {x} {a} (called e) k = called_at x k a e
+called_not e k = grind arith
 
 -- nothing goes on with the sign
 abbrev pub Stops : Sign → List Word → Type 0
@@ -105,9 +50,7 @@ Stops (arguments E) z = begins z ≡ false
 Stops atom z = Unit {0}
 
 pub stop : {m : Mark} {a b : List Word} → Takes m a b → leb 20 (code m) ≡ true → Stops expr a
-stop {m} i h =
-    let l = leb-true 20 (code m) h in
-    (halts i (lt-leb (suc (code m)) 7 (omega arith)), differs i Times (ne_eqb _ _ (λ e. omega arith)), differs i Plus (ne_eqb _ _ (λ e. omega arith)), differs i Arrow (ne_eqb _ _ (λ e. omega arith)))
+stop i h = search rules
 
 -- what a sign begins with
 abbrev Low : Sign → List Word → Type 0

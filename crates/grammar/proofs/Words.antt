@@ -22,8 +22,7 @@ words_of zero fresh (b ∷ bs) at =
 words_of (suc k) fresh (b ∷ bs) at = words_of k (eqb b 10) bs (suc at)
 
 with_same : (s : List ℕ) (o : Option Kind) (at n : ℕ) (ls : List Lexeme) → words s (with_lexeme o at n ls) ≡ with_word o (bytes_at s at n) at (words s ls)
-with_same s None at n ls = refl
-with_same s (Some k) at n ls = refl
+with_same s o at n ls = grind arith
 
 pub drop_more : (s : List ℕ) (at b : ℕ) (bs : List ℕ) → b ∷ bs ≡ drop at s → bs ≡ drop (suc at) s
 drop_more [] zero b bs e = cc

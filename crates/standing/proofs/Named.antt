@@ -30,7 +30,6 @@ use Rattle.grammar.specs.Sentences.Sentence.{a_def, a_typed_def, an_axiom, a_che
 use Rattle.grammar.specs.Text.{GoodName}
 use Rattle.standing.specs.Standing.{Low, AllLow, LowNumbers, KindsAgree, NewlyNamed, NamedStatements}
 use Rattle.grammar.proofs.Good.{leads, names_good}
-use Rattle.grammar.proofs.Lookups.{kind_first}
 use Rattle.grammar.proofs.Sentences.{read_sentences}
 
 all_until : (P : Lexeme → Type 0) (ls : List Lexeme) → AllByRecursion P ls → AllByRecursion P (until ls)
@@ -55,8 +54,7 @@ unfolding statements_from
 summed s at st e = summed_by s st (lexemes_from s at) e
 
 kind_by : (s : List ℕ) (st : Statement) (ls : List Lexeme) → Summed s st ls → kind_of (words s (own ls)) ≡ st.kind
-kind_by s st [] h = absurd h
-kind_by s st (l ∷ ls) h = kind_first s l (until ls) ∙ ap (λ (x : Statement). x.kind) h
+kind_by s st ls h = grind arith
 
 pub kinds_agree : KindsAgree
 kinds_agree s at st e = kind_by s st (lexemes_from s at) (summed s at st e)
