@@ -32,7 +32,7 @@ abbrev pub marked : Mark → Word
 marked m = put (mark m) 0
 
 x_good : GoodName (codes "x")
-x_good = record { letter_first = refl; word_bytes = (refl, tt); short = omega arith; free = refl }
+x_good = grind arith
 
 -- the word `Type` is an expression, and each part of one
 pub type_reads : (entries : List Name) (end : ℕ) (g : Sign) (sc : List Name) (v : List Word) → Passing g → goes_on v ≡ false → Reads entries end g sc (marked TypeWord ∷ v) (tree (sort 0 0) v)
@@ -81,7 +81,7 @@ module _ (entries : List Name) (end : ℕ) (V : List Word → Type 0) where
     pub ends : Ends s
 
   pub good_fine : {s : Steps} → Good s → Fine s
-  good_fine g = record { fair = g.fair; done = g.ends.done }
+  good_fine g = grind arith
 
   abbrev next_done : (m : Mark) (s z : Steps) → Done s → Done (next m s z)
   next_done m s z d = record { more = marked m ∷ d.more; term = d.term; writable = (tt, d.writable); reads = λ v h. passed (eq-eqb (code m) (code m) refl) (d.reads v h) }

@@ -1,6 +1,5 @@
 -- How deep a printable term may stand.
-use Rattle.std.proofs.Common.{◌≡◌, ℕ, suc, ◌+◌, ◌*◌, ◌^◌, ◌<◌, ◌≤◌, Bool, true, not, ◌||◌, leb, subst, arith}
-use Rattle.std.proofs.lemmas.Bool.{leb-false, not-true}
+use Rattle.std.proofs.Common.{◌≡◌, ℕ, suc, ◌+◌, ◌*◌, ◌^◌, ◌<◌, ◌≤◌, Bool, true, not, ◌||◌, arith}
 use Rattle.term.specs.declared.node.Unary.{Unary}
 use Rattle.term.specs.declared.node.Binary.{Binary}
 use Rattle.term.specs.Forms.{binds, binds_last}
@@ -8,13 +7,13 @@ use Rattle.term.specs.Term.{Term, sort, local, entry, unary, binary, choice, cel
 use Rattle.grammar.specs.Text.{Printable}
 
 pub under_none : (m d : ℕ) (t : Term) → Printable m (0 + d) t → Printable m d t
-under_none m d t h = let e : 0 + d ≡ d = omega arith in subst (λ n. Printable m n t) e h
+under_none m d t h = grind arith
 
 pub under : (m d : ℕ) (t : Term) → Printable m (1 + d) t → Printable m (suc d) t
-under m d t h = let e : 1 + d ≡ suc d = omega arith in subst (λ n. Printable m n t) e h
+under m d t h = grind arith
 
 pub under_two : (m d : ℕ) (t : Term) → Printable m (2 + d) t → Printable m (suc (suc d)) t
-under_two m d t h = let e : 2 + d ≡ suc (suc d) = omega arith in subst (λ n. Printable m n t) e h
+under_two m d t h = grind arith
 
 pub shallow : (m d : ℕ) (t : Term) → Printable m d t → d < 2 ^ 64
 shallow m d (sort p s) h = h.0
@@ -45,7 +44,7 @@ inside a b e = grind arith
 -- a closed term of few cells is printable
 pub printable : (m d : ℕ) (t : Term) → d + 2 * cells t < 2 ^ 64 → closed d t ≡ true → Bounded m t → Printable m d t
 printable m d (sort p s) l c b = (omega arith, b)
-printable m d (local p k) l c b = (omega arith, leb-false d k (not-true (leb d k) c))
+printable m d (local p k) l c b = grind arith
 printable m d (entry p j) l c b = (omega arith, b)
 printable m d (unary p u E) l c b = printable m (binds u + d) E (omega (arith, few u)) c b
 printable m d (binary p f E F) l c b =

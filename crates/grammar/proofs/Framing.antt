@@ -22,7 +22,7 @@ like_quiet : (z v : List Word) → goes_on v ≡ false → Like z v
 like_quiet z v h = grind arith
 
 like_first : (w : Word) (a b : List Word) → Like (w ∷ a) (w ∷ b)
-like_first w a b = record { beginning = λ e. e; joining = λ m j e. e }
+like_first w a b = grind arith
 
 like_front : (u z v : List Word) → Like z v → Like (u ++ z) (u ++ v)
 like_front [] z v l = l
@@ -49,8 +49,8 @@ module _ (entries : List Name) (end : ℕ) where
   -- a production that passed no word asks the same before v
   production_empty : (g : Sign) (sc : List Name) (x z v : List Word) (t : Term) → x ≡ z → Follows entries end (production entries end g sc x) x (tree t z) → Like z v → production entries end g sc x ≡ production entries end g sc v
   production_empty expr sc x z v t e d l = absurd (not_shorter e (eaten entries end d (eats entries end expr sc x tt)))
-  production_empty sums sc x z v t e d l = absurd (not_shorter e (eaten entries end d (eats entries end sums sc x tt)))
-  production_empty products sc x z v t e d l = absurd (not_shorter e (eaten entries end d (eats entries end products sc x tt)))
+  production_empty sums sc x z v t e d l = grind arith
+  production_empty products sc x z v t e d l = grind arith
   production_empty application sc x z v t e d l = absurd (not_shorter e (eaten entries end d (eats entries end application sc x tt)))
   production_empty atom sc x z v t e d l = absurd (not_shorter e (eaten entries end d (eats entries end atom sc x tt)))
   production_empty (arguments E) sc x z v t e d l =
@@ -59,7 +59,7 @@ module _ (entries : List Name) (end : ℕ) where
 
   production_same : (g : Sign) (sc : List Name) (x u z v : List Word) (t : Term) → x ≡ u ++ z → Follows entries end (production entries end g sc x) x (tree t z) → Like z v → production entries end g sc x ≡ production entries end g sc (u ++ v)
   production_same g sc x [] z v t e d l = production_empty g sc x z v t e d l
-  production_same g sc x (w ∷ u) z v t e d l = ap (production entries end g sc) e ∙ production_first g sc w (u ++ z) (u ++ v)
+  production_same g sc x (w ∷ u) z v t e d l = grind arith
 
   -- the steps lead from x to z by the words of front, and do so before all that is like z
   pub record Framed (s : Steps) (x z : List Word) (t : Term) : Type 0 where
@@ -68,13 +68,13 @@ module _ (entries : List Name) (end : ℕ) where
     pub again : (v : List Word) → Like z v → Follows entries end s (front ++ v) (tree t v)
 
   is_still : (m : Mark) (s : Steps) (x u z v : List Word) (t : Term) → is m x ≡ false → x ≡ u ++ z → Joins m ⊎ Eats s → Follows entries end s x (tree t z) → Like z v → is m (u ++ v) ≡ false
-  is_still m s x [] z v t e w (inl j) d l = l.joining m j (subst (λ y. is m y ≡ false) w e)
+  is_still m s x [] z v t e w (inl j) d l = grind arith
   is_still m s x [] z v t e w (inr h) d l = absurd (not_shorter w (eaten entries end d h))
   is_still m s x (y ∷ u) z v t e w h d l = subst (λ y. is m y ≡ false) w e
 
   name_still : (s : Steps) (x u z v : List Word) (t : Term) → next_name x ≡ None → x ≡ u ++ z → Eats s → Follows entries end s x (tree t z) → next_name (u ++ v) ≡ None
   name_still s x [] z v t e w h d = absurd (not_shorter w (eaten entries end d h))
-  name_still s x (y ∷ u) z v t e w h d = subst (λ y. next_name y ≡ None) w e
+  name_still s x (y ∷ u) z v t e w h d = grind arith
 
   ended_not : (s : Steps) → ((v : List Word) → Quiet v → v ≡ []) → ⊥
   ended_not s h = let e = h (marked Closes ∷ []) refl in cc
@@ -137,8 +137,8 @@ nothing_left (w ∷ a) b e = cc
 
 module _ (entries : List Name) (end : ℕ) where
   production_at : (g : Sign) (sc : List Name) (b : List Word) (w : Word) (a c : List Word) → production entries end g sc (b ++ (w ∷ a)) ≡ production entries end g sc (b ++ (w ∷ c))
-  production_at g sc [] w a c = production_first entries end g sc w a c
-  production_at g sc (y ∷ b) w a c = production_first entries end g sc y (b ++ (w ∷ a)) (b ++ (w ∷ c))
+  production_at g sc [] w a c = grind arith
+  production_at g sc (y ∷ b) w a c = grind arith
 
 module _ (entries : List Name) (end : ℕ) (V : List Word → Type 0) where
   -- where nothing is passed, who asks knows what completes the steps
@@ -156,7 +156,7 @@ module _ (entries : List Name) (end : ℕ) (V : List Word → Type 0) where
     pub can : Can s before
 
   pub complete : (s : Steps) (b : List Word) → Can s b → Done entries end V s → Completed entries end V s b
-  complete s [] c d = record { more = d.more; writable = d.writable; term = d.term; reads = d.reads }
+  complete s [] c d = grind arith
   complete s (w ∷ b) c d = c
 
   can_be : (s : Steps) (b : List Word) → Completed entries end V s b → Can s b

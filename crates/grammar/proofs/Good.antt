@@ -23,7 +23,7 @@ NoName (Some k) = is_name k ≡ false
 
 spelt_no_name : (rows : List (List ℕ × Kind)) (w : List ℕ) → AllByRecursion (λ (r : List ℕ × Kind). is_name r.1 ≡ false) rows → NoName (spelt rows w)
 spelt_no_name [] w h = tt
-spelt_no_name (r ∷ rows) w h = cond_both (bytes_eq r.0 w) _ _ NoName (λ e. h.0) (λ e. spelt_no_name rows w h.1)
+spelt_no_name (r ∷ rows) w h = grind (arith, spelt_no_name rows w h.1)
 
 or_no_name : (x y : Option Kind) → NoName x → NoName y → NoName (or_else x y)
 or_no_name None y h k = k

@@ -30,7 +30,7 @@ not_binder x j h e = grind arith
 
 pub find_none : (x : Name) (d : ℕ) → is_ascii_alphabetic (get_or x 0 0) ≡ true → find x (binder_names d) ≡ None
 find_none x zero h = refl
-find_none x (suc d) h = cond-false (bytes_eq (binder_name d) x) _ _ (same_false _ _ (not_binder x d h)) ∙ ap later (find_none x d h)
+find_none x (suc d) h = grind (arith, find_none x d h)
 
 -- the last that passes
 pub last_none : (p : Name → Bool) (i : ℕ) (o : Option ℕ) (xs : List Name) → ((k : ℕ) → k < length xs → p (get_or xs k []) ≡ false) → last_from p i o xs ≡ o

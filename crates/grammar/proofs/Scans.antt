@@ -29,8 +29,8 @@ abbrev pub width : Token → ℕ
 width x = length (spelled x)
 
 over : (w r : List ℕ) (at : ℕ) → InLine w → words_of (length w) false (w ++ r) at ≡ words_of 0 false r (at + length w)
-over [] r at h = ap (words_of 0 false r) (omega arith)
-over (b ∷ w) r at h = ap (λ f. words_of (length w) f (w ++ r) (suc at)) h.0 ∙ over w r (suc at) h.1 ∙ ap (words_of 0 false r) (omega arith)
+over [] r at h = grind arith
+over (b ∷ w) r at h = grind (arith, over w r (suc at) h.1)
 
 scan_at : (x : Token) (k : Kind) (b : ℕ) (w r : List ℕ) (f : Bool) (at : ℕ) → InLine (b ∷ w) → as_token k (b ∷ w) ≡ x → piece f b (w ++ r) ≡ token k (suc (length w)) → words_of 0 f (b ∷ (w ++ r)) at ≡ put x at ∷ words_of 0 false r (at + suc (length w))
 scan_at x k b w r f at e m h =

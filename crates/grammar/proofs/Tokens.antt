@@ -1,13 +1,12 @@
 -- The scanner finds each token that a printed term has.
-use Rattle.std.proofs.Common.{◌≡◌, ℕ, suc, ◌^◌, ◌<◌, ◌≤◌, Bool, true, false, ◌&&◌, eqb, leb, List, [], ◌∷◌, ◌++◌, length, get_or, take, None, codes, decimal, refl, ap, ◌∙◌, arith}
+use Rattle.std.proofs.Common.{◌≡◌, ℕ, suc, ◌^◌, ◌<◌, ◌≤◌, Bool, true, false, ◌&&◌, eqb, List, [], ◌∷◌, ◌++◌, length, get_or, take, None, codes, decimal, refl, ap, ◌∙◌, arith}
 use lib.Seq.{take-append_seam}
 use Rattle.std.specs.Str.Parse.{AllDigits, digits_value}
 use Rattle.std.specs.Char.{is_ascii_alphabetic, is_ascii_digit}
 use Rattle.std.specs.List.{prefix_len, AllByRecursion}
 use Rattle.std.specs.Str.{bytes_eq}
-use Rattle.std.proofs.lemmas.Bool.{le-leb, cond-true, cond-false, or_left, and_from, and_left, and_parts}
+use Rattle.std.proofs.lemmas.Bool.{cond-true, cond-false, or_left, and_left, and_parts}
 use Rattle.std.proofs.lemmas.Bool.Decides.{nat_tests}
-use Rattle.std.proofs.lemmas.Str.Parse.{digit_from_value}
 use Rattle.std.proofs.lemmas.Fmt.{decimal_is_IsNumeral, decimal_nonempty, first_decimal, length-decimal-le}
 use Rattle.script.specs.declared.token.Mark.{Mark}
 use Rattle.script.specs.declared.token.Kind.{Kind}
@@ -21,7 +20,7 @@ use Rattle.grammar.proofs.Scans.{InLine, Scans}
 
 leading_all : (p : ℕ → Bool) (w r : List ℕ) → AllByRecursion (λ b. p b ≡ true) w → prefix_len p r ≡ 0 → prefix_len p (w ++ r) ≡ length w
 leading_all p [] r h e = e
-leading_all p (b ∷ w) r h e = cond-true (p b) _ _ h.0 ∙ omega (arith, leading_all p w r h.1 e)
+leading_all p (b ∷ w) r h e = grind (arith, leading_all p w r h.1 e)
 
 quiet_word : (r : List ℕ) → quiet r ≡ true → prefix_len word_byte r ≡ 0
 quiet_word r h = grind arith
@@ -48,7 +47,7 @@ digit_word b h = grind arith
 
 word_line : (w : List ℕ) → AllByRecursion (λ c. word_byte c ≡ true) w → InLine w
 word_line [] h = tt
-word_line (b ∷ w) h = (let e = h.0 in grind (arith, nat_tests), word_line w h.1)
+word_line (b ∷ w) h = grind (arith, word_line w h.1)
 
 pub all_words : (ds : List ℕ) → AllByRecursion (λ c. is_ascii_digit c ≡ true) ds → AllByRecursion (λ c. word_byte c ≡ true) ds
 all_words [] h = tt
@@ -100,7 +99,7 @@ module _ (b : ℕ) (w r : List ℕ) (q : quiet r ≡ true) where
 
 pub all_digits : (ds : List ℕ) → AllDigits 10 ds → AllByRecursion (λ c. is_ascii_digit c ≡ true) ds
 all_digits [] h = tt
-all_digits (c ∷ ds) h = (let k = digit_from_value c h.0 in and_from (leb 48 c) (leb c 57) (le-leb 48 c k.0) (le-leb c 57 k.1), all_digits ds h.1)
+all_digits (c ∷ ds) h = grind (arith, all_digits ds h.1)
 
 -- digits of a positive number, with no needless zero
 number_is : (ds : List ℕ) (n : ℕ) → digits_value 10 ds ≡ n → n ≤ 65535 → 48 < get_or ds 0 0 → number_kind ds ≡ Number n
@@ -139,7 +138,7 @@ all_bytes p (b ∷ bs) = p b && all_bytes p bs
 
 all_from : (p : ℕ → Bool) (w : List ℕ) → all_bytes p w ≡ true → AllByRecursion (λ b. p b ≡ true) w
 all_from p [] h = tt
-all_from p (b ∷ w) h = ((and_parts (p b) _ h).0, all_from p w (and_parts (p b) _ h).1)
+all_from p (b ∷ w) h = grind (arith, all_from p w (and_parts (p b) _ h).1)
 
 -- a reserved word's spelling
 abbrev pub Worded : Mark → List ℕ → Type 0

@@ -1,6 +1,6 @@
 -- A phrase that nothing goes on with is read.
 use Rattle.std.proofs.Common.{◌≡◌, ℕ, ◌<◌, true, false, eqb, ltb, leb, List, None, sym, refl, subst, subst₂, arith, rules}
-use Rattle.std.proofs.lemmas.Bool.{leb-true, le-leb, ne_eqb, or_parts}
+use Rattle.std.proofs.lemmas.Bool.{leb-true, ne_eqb, or_parts}
 use Rattle.script.specs.declared.token.Mark.{Mark}
 use Rattle.script.specs.declared.token.Mark.TheVariants.{OpensBrace, FstWord, SndWord, InlWord, InrWord, FunWord, PiWord, ForallWord, SigmaWord, ExistsWord, LetWord, Arrow, Plus, Times}
 use Rattle.script.specs.Marks.{code}
@@ -81,7 +81,7 @@ module _ (entries : List Name) (end : ℕ) where
   low (a_sum p i q) = low p
   low (no_times p) = low p
   low (a_product p i q) = low p
-  low (by_atom {a = a} p q) = λ m h. plain a (low p) m (le-leb 7 (code m) (omega (arith, leb-true 11 (code m) h)))
+  low (by_atom {a = a} p q) = grind (arith, low p)
   low (by_fst i p q) = head_low i (omega arith)
   low (by_snd i p q) = head_low i (omega arith)
   low (by_inl i p q) = head_low i (omega arith)

@@ -1,5 +1,5 @@
 -- The words of bytes, each name taken from the bytes themselves.
-use Rattle.std.proofs.Common.{◌≡◌, ℕ, zero, suc, pred, Bool, eqb, List, [], ◌∷◌, take, drop, Some, None, Option, sym, refl, ap, ◌∙◌, ap₂, arith}
+use Rattle.std.proofs.Common.{◌≡◌, ℕ, zero, suc, pred, Bool, eqb, List, [], ◌∷◌, take, drop, Some, None, Option, refl, arith}
 use Rattle.script.specs.declared.token.Kind.{Kind}
 use Rattle.script.specs.declared.token.Lexeme.{Lexeme}
 use Rattle.script.specs.Names.{bytes_at}
@@ -33,9 +33,7 @@ drop_more (x ∷ s) (suc at) b bs e = drop_more s at b bs e
 pub words_same : (s : List ℕ) (k : ℕ) (f : Bool) (bs : List ℕ) (at : ℕ) → bs ≡ drop at s → words s (lexemes (parts k f bs at)) ≡ words_of k f bs at
 words_same s zero f [] at e = refl
 words_same s (suc k) f [] at e = refl
-words_same s zero f (b ∷ bs) at e =
-    with_same s (piece f b bs).kind at (piece f b bs).len (lexemes (parts (pred (piece f b bs).len) (eqb b 10) bs (suc at)))
-    ∙ ap₂ (λ x ws. with_word (piece f b bs).kind x at ws) (ap (take (piece f b bs).len) (sym e)) (words_same s (pred (piece f b bs).len) (eqb b 10) bs (suc at) (drop_more s at b bs e))
+words_same s zero f (b ∷ bs) at e = grind (arith, words_same s (pred (piece f b bs).len) (eqb b 10) bs (suc at) (drop_more s at b bs e))
 words_same s (suc k) f (b ∷ bs) at e = words_same s k (eqb b 10) bs (suc at) (drop_more s at b bs e)
 
 -- the words of a script from a place on
