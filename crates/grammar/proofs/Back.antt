@@ -46,11 +46,11 @@ module _ (entries : List Name) (end : ℕ) (sc : List Name) {ws us : List Word} 
 
 module _ (entries : List Name) (end : ℕ) (sc : List Name) {ws us : List Word} {t : Term} where
   alone : begins ws ≡ true → begins us ≡ false → Reads entries end atom sc ws (tree t us) → Reads entries end application sc ws (tree t us)
-  alone e f r = led entries end sc e r (no_arguments entries end sc f)
+  alone e f r = grind (arith, led, no_arguments)
 
   -- an atom in an expression's place, before what does not go on with it
   as_expr : begins ws ≡ true → begins us ≡ false → is Times us ≡ false → is Plus us ≡ false → is Arrow us ≡ false → Reads entries end atom sc ws (tree t us) → Reads entries end expr sc ws (tree t us)
-  as_expr e f a b c r = begun entries end sc e c (as_sums entries end sc a b (alone e f r))
+  as_expr e f a b c r = grind (arith, begun, as_sums, alone)
 
 module _ (entries : List Name) (end : ℕ) (sc : List Name) where
   a_local : {x : Name} {j p : ℕ} {ws : List Word} → find x sc ≡ Some j → Reads entries end atom sc (put (name x) p ∷ ws) (tree (local p j) ws)

@@ -43,16 +43,16 @@ module _ (entries : List Name) (end : ℕ) where
   fork b E sc = cond b (part atom sc (λ F. part (arguments (binary (place E) App E F)) sc give)) (give E)
 
   no_argument : (b : Bool) (E : Term) (sc : List Name) (x z : List Word) (t : Term) → x ≡ z → Follows entries end (fork b E sc) x (tree t z) → b ≡ false
-  no_argument true E sc x z t e d = absurd (not_shorter e (eaten entries end d tt))
+  no_argument true E sc x z t e d = grind (arith, not_shorter, eaten)
   no_argument false E sc x z t e d = refl
 
   -- a production that passed no word asks the same before v
   production_empty : (g : Sign) (sc : List Name) (x z v : List Word) (t : Term) → x ≡ z → Follows entries end (production entries end g sc x) x (tree t z) → Like z v → production entries end g sc x ≡ production entries end g sc v
-  production_empty expr sc x z v t e d l = absurd (not_shorter e (eaten entries end d (eats entries end expr sc x tt)))
+  production_empty expr sc x z v t e d l = grind (arith, not_shorter, eaten, eats)
   production_empty sums sc x z v t e d l = grind arith
   production_empty products sc x z v t e d l = grind arith
-  production_empty application sc x z v t e d l = absurd (not_shorter e (eaten entries end d (eats entries end application sc x tt)))
-  production_empty atom sc x z v t e d l = absurd (not_shorter e (eaten entries end d (eats entries end atom sc x tt)))
+  production_empty application sc x z v t e d l = grind (arith, not_shorter, eaten, eats)
+  production_empty atom sc x z v t e d l = grind (arith, not_shorter, eaten, eats)
   production_empty (arguments E) sc x z v t e d l =
       let b : begins x ≡ false = no_argument (begins x) E sc x z t e d in
       ap (λ c. fork c E sc) (b ∙ sym (l.beginning (ap begins (sym e) ∙ b)))
@@ -69,11 +69,11 @@ module _ (entries : List Name) (end : ℕ) where
 
   is_still : (m : Mark) (s : Steps) (x u z v : List Word) (t : Term) → is m x ≡ false → x ≡ u ++ z → Joins m ⊎ Eats s → Follows entries end s x (tree t z) → Like z v → is m (u ++ v) ≡ false
   is_still m s x [] z v t e w (inl j) d l = grind arith
-  is_still m s x [] z v t e w (inr h) d l = absurd (not_shorter w (eaten entries end d h))
+  is_still m s x [] z v t e w (inr h) d l = grind (arith, not_shorter, eaten)
   is_still m s x (y ∷ u) z v t e w h d l = subst (λ y. is m y ≡ false) w e
 
   name_still : (s : Steps) (x u z v : List Word) (t : Term) → next_name x ≡ None → x ≡ u ++ z → Eats s → Follows entries end s x (tree t z) → next_name (u ++ v) ≡ None
-  name_still s x [] z v t e w h d = absurd (not_shorter w (eaten entries end d h))
+  name_still s x [] z v t e w h d = grind (arith, not_shorter, eaten)
   name_still s x (y ∷ u) z v t e w h d = grind arith
 
   ended_not : (s : Steps) → ((v : List Word) → Quiet v → v ≡ []) → ⊥
@@ -202,7 +202,7 @@ module _ (entries : List Name) (end : ℕ) (V : List Word → Type 0) (g : Sign)
 
 module _ (entries : List Name) (end : ℕ) where
   like_at : (y b : List Word) (w : Word) (a c : List Word) → y ≡ b ++ (w ∷ a) → Like y (b ++ (w ∷ c))
-  like_at y b w a c e = subst (λ z. Like z (b ++ (w ∷ c))) (sym e) (like_front b (w ∷ a) (w ∷ c) (like_first w a c))
+  like_at y b w a c e = grind (arith, like_front, like_first)
 
   pub stuck : (V : List Word → Type 0) (s : Steps) (x : List Word) {r : Reading} → Follows entries end s x r → (p : ℕ) → r ≡ refusal 3 p → Fair entries end V s → Stuck entries end V s x p
   stuck V s x given p o f = cc

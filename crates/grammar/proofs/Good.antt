@@ -1,8 +1,7 @@
 -- A name of a script that begins with a letter is good.
-use Rattle.std.proofs.Common.{◌≡◌, ℕ, zero, suc, pred, Bool, true, false, cond, not, ◌&&◌, eqb, leb, List, [], ◌∷◌, length, get_or, take, drop, Some, None, codes, Option, sym, refl, ap, ◌∙◌, subst, one-add, arith, rules}
+use Rattle.std.proofs.Common.{◌≡◌, ℕ, zero, suc, pred, Bool, true, false, cond, eqb, List, [], ◌∷◌, get_or, take, drop, Some, None, Option, sym, refl, ap, ◌∙◌, subst, one-add, arith, rules}
 use Rattle.std.specs.Char.{is_ascii_alphabetic}
 use Rattle.std.specs.List.{prefix_len, AllByRecursion}
-use Rattle.std.specs.Str.{bytes_eq}
 use Rattle.std.proofs.lemmas.Bool.{cond-true, cond_both, or_left, and_parts, leb-true}
 use Rattle.std.proofs.lemmas.Grind.{common_steps}
 use Rattle.script.specs.declared.token.Kind.{Kind}
@@ -10,8 +9,8 @@ use Rattle.script.specs.declared.token.Kind.TheVariants.{Name, NoToken}
 use Rattle.script.specs.declared.token.Piece.{Piece}
 use Rattle.script.specs.declared.token.Lexeme.{Lexeme}
 use Rattle.script.specs.Names.{bytes_at}
-use Rattle.script.specs.Tokens.{letter, word_byte, spelt, or_else, kind_or, reserved, name_kind, word_kind, word_piece, token_piece, piece, sort_words, binder_words, part_words, first_words}
-use Rattle.script.specs.Parts.{parts, parts_from, line_start, with_lexeme, lexemes, lexemes_from}
+use Rattle.script.specs.Tokens.{letter, word_byte, spelt, or_else, kind_or, reserved, word_kind, word_piece, token_piece, piece, sort_words, binder_words, part_words, first_words}
+use Rattle.script.specs.Parts.{parts, parts_from, with_lexeme, lexemes, lexemes_from}
 use Rattle.script.specs.Statements.{is_name}
 use Rattle.grammar.specs.Text.{GoodName}
 use Rattle.grammar.proofs.Words.{drop_more}
@@ -43,10 +42,7 @@ short_word : (t : Bool) → cond t Name NoToken ≡ Name → t ≡ true
 short_word t e = grind arith
 
 pub word_good : (w : List ℕ) → AllByRecursion (λ b. word_byte b ≡ true) w → word_kind w ≡ Name → is_ascii_alphabetic (get_or w 0 0) ≡ true → GoodName w
-word_good w h e l =
-    let f = free_word (reserved w) (name_kind w) (reserved_no_name w) e in
-    let t = short_word (leb (length w) 64 && not (bytes_eq w (codes "_"))) f.1 in
-    record { letter_first = l; word_bytes = h; short = leb-true (length w) 64 (and_parts (leb (length w) 64) _ t).0; free = f.0 }
+word_good w h e l = grind (arith, free_word, reserved_no_name, short_word, leb-true, and_parts)
 
 pub leads : (p : ℕ → Bool) (bs : List ℕ) → AllByRecursion (λ b. p b ≡ true) (take (prefix_len p bs) bs)
 leads p [] = tt
@@ -90,4 +86,4 @@ parts_good s (suc k) f (b ∷ bs) at e = parts_good s k (eqb b 10) bs (suc at) (
 -- each name among a script's lexemes
 pub names_good : (s : List ℕ) (at : ℕ) → AllByRecursion (λ (l : Lexeme). l.kind ≡ Name → is_ascii_alphabetic (get_or s l.at 0) ≡ true → GoodName (bytes_at s l.at l.len)) (lexemes_from s at)
 unfolding lexemes_from parts_from
-names_good s at = parts_good s 0 (line_start s at) (drop at s) at refl
+names_good s at = grind (arith, parts_good)

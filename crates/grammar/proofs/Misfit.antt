@@ -98,15 +98,15 @@ module _ (entries : List Name) (end : ℕ) (few : length entries < 2 ^ 64) where
 
     new_stuck : (y : List Word) {r : Reading} → p ≡ here end y → Follows entries end (new_name entries p s) y r → (q : ℕ) → r ≡ refusal 3 q → Stuck entries end Nothing (new_name entries p s) y q
     new_stuck [] i (named e d) q j = cc
-    new_stuck (w ∷ y) i (named {x = n} e d) q j = named_stuck w y n (is_ascii_alphabetic (get_or n 0 0)) (find_entry n entries) i e refl refl d q j
+    new_stuck (w ∷ y) i (named {x = n} e d) q j = grind (arith, named_stuck)
     new_stuck y i (nameless e unfit) q j =
         record { before = []; after = y; whole = refl; place = cc; stays = λ w rest k c. nameless (subst (λ y. next_name y ≡ None) k e) unfit; can = tt }
 
   statement_stuck : (k : StatementKind) (y : List Word) {r : Reading} → Follows entries end (statement k entries (here end y)) y r → (q : ℕ) → r ≡ refusal 3 q → Stuck entries end Nothing (statement k entries (here end y)) y q
-  statement_stuck Def y d q j = new_stuck (here end y) value value_fine y refl d q j
-  statement_stuck Axiom y d q j = new_stuck (here end y) type type_fine y refl d q j
-  statement_stuck Check y d q j = stuck entries end Nothing judging y d q j judging_fine.fair
-  statement_stuck Eval y d q j = stuck entries end Nothing judging y d q j judging_fine.fair
+  statement_stuck Def y d q j = grind (arith, new_stuck, value_fine)
+  statement_stuck Axiom y d q j = grind (arith, new_stuck, type_fine)
+  statement_stuck Check y d q j = grind (arith, stuck, judging_fine)
+  statement_stuck Eval y d q j = grind (arith, stuck, judging_fine)
 
   -- what completes a statement of a kind, wherever its name stands
   abbrev statement_done : (k : StatementKind) (p : ℕ) → Done entries end Nothing (statement k entries p)
@@ -147,10 +147,7 @@ module _ (entries : List Name) (end : ℕ) (few : length entries < 2 ^ 64) where
   here_at (x ∷ b) w a c = refl
 
   read_not : {r : Reading} (ws : List Word) {q : Reading} {t : Term} {us : List Word} {p : ℕ} (k : StatementKind) → kind_of ws ≡ Some k → Follows entries end (statement k entries (name_place end ws)) (past ws) r → r ≡ refusal 3 p → States entries end ws q → q ≡ tree t us → ⊥
-  read_not {r} ws {q} k e d i (of_kind {k = m} f h) j =
-      let o : m ≡ k = cc in
-      let u : r ≡ q = unique entries end d (subst (λ k. Follows entries end (statement k entries (name_place end ws)) (past ws) q) o h) in
-      cc
+  read_not {r} ws {q} k e d i (of_kind {k = m} f h) j = grind (arith, unique)
   read_not ws k e d i (of_none f) j = cc
 
   none_not : {q : Reading} {t : Term} {us : List Word} (ws : List Word) → kind_of ws ≡ None → States entries end ws q → q ≡ tree t us → ⊥
@@ -183,4 +180,4 @@ module _ (entries : List Name) (end : ℕ) (few : length entries < 2 ^ 64) where
       }
 
 pub misfits : Misfits
-misfits entries end ws p few d = by_reading entries end few ws p d refl
+misfits entries end ws p few d = grind (arith, by_reading)

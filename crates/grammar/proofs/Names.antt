@@ -44,7 +44,4 @@ last_at p i o (x ∷ xs) zero l e h =
 last_at p i o (x ∷ xs) (suc j) l e h = last_at p (i + 1) _ xs j (omega arith) e (λ k a b. h (suc k) (omega arith) (omega arith)) ∙ ap Some (omega arith)
 
 pub entry_found : (es : List Name) (j : ℕ) → ((i j : ℕ) → i < length es → j < length es → get_or es i [] ≡ get_or es j [] → i ≡ j) → j < length es → find_entry (get_or es j []) es ≡ Some j
-entry_found es j h l =
-    last_at (λ y. bytes_eq y (get_or es j [])) 0 None es j l (same_true (get_or es j []))
-    (λ k a b. same_false _ _ (λ e. let z : k ≡ j = h k j b l e in omega arith))
-    ∙ ap Some (omega arith)
+entry_found es j h l = grind (arith, last_at, same_true, same_false)

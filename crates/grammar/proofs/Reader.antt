@@ -5,7 +5,7 @@ use Rattle.script.specs.declared.statement.StatementKind.{StatementKind}
 use Rattle.term.specs.declared.node.Binary.TheVariants.{App}
 use Rattle.term.specs.Term.{Term, place, binary}
 use Rattle.grammar.specs.Words.{Word}
-use Rattle.grammar.specs.Grammar.{Name, Sign, expr, sums, products, application, atom, arguments, Steps, give, refuse, misfit, ending, next, a_name, a_number, part, is, begins, next_name, next_number, past, here, production, Reading, tree, refusal, Follows, Reads}
+use Rattle.grammar.specs.Grammar.{Name, Sign, expr, sums, products, application, atom, arguments, Steps, give, refuse, misfit, ending, next, a_name, a_number, part, is, next_name, next_number, past, here, production, Reading, tree, refusal, Follows, Reads}
 use Rattle.grammar.specs.Grammar.Follows.{given, refused, unfit, ended, overrun, passed, turned, named, nameless, numbered, numberless, parted, broken}
 use Rattle.grammar.specs.Statements.{kind_of, name_place, statement, States, OneStatement}
 use Rattle.grammar.specs.Statements.States.{of_kind, of_none}
@@ -71,7 +71,7 @@ module _ (entries : List Name) (end : ℕ) where
 
   pub reading_told : (n : ℕ) (g : Sign) (sc : List Name) (ws : List Word) (r : Reading) → reading entries end n g sc ws ≡ Some r → Reads entries end g sc ws r
   reading_told zero g sc ws r e = cc
-  reading_told (suc n) g sc ws r e = follow_told (reading entries end n) (reading_told n) (production entries end g sc ws) ws r e
+  reading_told (suc n) g sc ws r e = grind (arith, reading_told n, follow_told)
 
 -- how many signs may open before a word is passed
 abbrev pub weight : Sign → ℕ
@@ -174,25 +174,16 @@ Answered o = (r : Reading) × (o ≡ Some r)
 
 module _ (entries : List Name) (end : ℕ) where
   safe_arguments : (b : Bool) (E : Term) (sc : List Name) (n l : ℕ) → 8 * l + 1 < suc n → Safe n l (cond b (part atom sc (λ F. part (arguments (binary (place E) App E F)) sc give)) (give E))
-  safe_arguments true E sc n l h = at_a_part (omega arith) (λ t k e p. safe_past n l (omega arith) k (p tt))
+  safe_arguments true E sc n l h = grind (arith, at_a_part, safe_past)
   safe_arguments false E sc n l h = at_give
 
   safe : (g : Sign) (sc : List Name) (ws : List Word) (n : ℕ) → 8 * length ws + weight g < suc n → Safe n (length ws) (production entries end g sc ws)
-  safe expr sc ws n h =
-      let o : 8 * length ws ≤ n = omega arith in
-      at_next (safe_past n _ o) (at_next (safe_past n _ o) (at_next (safe_past n _ o) (at_next (safe_past n _ o) (at_next (safe_past n _ o) (at_next (safe_past n _ o)
-      (at_a_part (omega arith) (λ t k e p. safe_past n _ o k (p tt))))))))
-  safe sums sc ws n h = at_a_part (omega arith) (λ t k e p. safe_past n _ (omega arith) k (p tt))
-  safe products sc ws n h = at_a_part (omega arith) (λ t k e p. safe_past n _ (omega arith) k (p tt))
-  safe application sc ws n h =
-      let o : 8 * length ws ≤ n = omega arith in
-      at_next (safe_past n _ o) (at_next (safe_past n _ o) (at_next (safe_past n _ o) (at_next (safe_past n _ o)
-      (at_a_part (omega arith) (λ t k e p. safe_past n _ o k (p tt))))))
-  safe (arguments E) sc ws n h = safe_arguments (begins ws) E sc n (length ws) h
-  safe atom sc ws n h =
-      let o : 8 * length ws ≤ n = omega arith in
-      at_a_name (λ x. safe_past n _ o) (at_next (safe_past n _ o) (at_next (safe_past n _ o) (at_next (safe_past n _ o) (at_next (safe_past n _ o)
-      (at_next (safe_past n _ o) (at_next (safe_past n _ o) (at_next (safe_past n _ o) at_misfit)))))))
+  safe expr sc ws n h = grind (arith, at_next, safe_past, at_a_part)
+  safe sums sc ws n h = grind (arith, at_a_part, safe_past)
+  safe products sc ws n h = grind (arith, at_a_part, safe_past)
+  safe application sc ws n h = grind (arith, at_next, safe_past, at_a_part)
+  safe (arguments E) sc ws n h = grind (arith, safe_arguments)
+  safe atom sc ws n h = grind (arith, at_a_name, safe_past, at_next, at_misfit)
 
   some_test : (b : Bool) (x y : Unit {0} → Option Reading) → (b ≡ true → Answered (x tt)) → Answered (y tt) → Answered (by_test b x y)
   some_test b x y h k = grind arith

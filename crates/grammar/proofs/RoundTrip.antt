@@ -1,5 +1,5 @@
 -- Printed terms read back as themselves.
-use Rattle.std.proofs.Common.{◌≡◌, ℕ, ◌+◌, ◌-◌, ◌<◌, true, false, ◌||◌, eqb, List, [], ◌∷◌, ◌++◌, length, get_or, drop, sym, ap, ◌∙◌, subst, ap₂, subst₂, arith, length-append}
+use Rattle.std.proofs.Common.{◌≡◌, ℕ, ◌+◌, ◌-◌, ◌<◌, true, false, ◌||◌, eqb, List, [], ◌∷◌, ◌++◌, length, get_or, drop, sym, ap, ◌∙◌, ap₂, subst₂, arith, length-append}
 use lib.Seq.{drop-append_seam}
 use Rattle.std.proofs.lemmas.List.{get_or-drop, drop-drop}
 use Rattle.std.proofs.lemmas.Bool.{or_parts, ne_eqb}
@@ -67,6 +67,4 @@ module _ (s : List ℕ) (at : ℕ) (entries : List Name) (end d : ℕ) (t : Term
       (laid_back entries end d at k t b)
 
 pub round_trip : RoundTrip
-round_trip s at entries end d t rest e good h q =
-    subst (λ w. drop at s ≡ w ++ rest → ReadsAs entries end d (words s (lexemes_from s at)) (words s (lexemes_from s (at + length w))) t)
-    (sym (text_items entries d t)) (λ f. trip s at entries end d t rest f good h q) e
+round_trip s at entries end d t rest e good h q = grind (arith, text_items, trip)

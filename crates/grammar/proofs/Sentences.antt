@@ -1,5 +1,5 @@
 -- What is read as a statement is a sentence, and a sentence is read.
-use Rattle.std.proofs.Common.{◌≡◌, ℕ, Bool, true, false, cond, List, [], get_or, Some, None, Option, sym, refl, subst, subst₂}
+use Rattle.std.proofs.Common.{◌≡◌, ℕ, Bool, true, false, cond, List, [], get_or, Some, None, Option, refl, subst, arith}
 use Rattle.std.specs.Char.{is_ascii_alphabetic}
 use Rattle.script.specs.declared.statement.StatementKind.{StatementKind}
 use Rattle.script.specs.declared.statement.StatementKind.TheVariants.{Def, Axiom, Check, Eval}
@@ -48,8 +48,7 @@ module _ (entries : List Name) (end : ℕ) where
   spoken ws us t (of_none e) i = cc
 
   enters : (p : ℕ) (s : Steps) {a b : List Word} {r : Reading} → Enters entries a b → Follows entries end s b r → Follows entries end (new_name entries p s) a r
-  enters p s {b = y} {r = r} n d =
-      calls entries end n.calls (subst₂ (λ b o. Follows entries end (cond b (unless_known o p s) (refuse 3 p)) y r) (sym n.letter) (sym n.new) d)
+  enters p s {b = y} {r = r} n d = grind (arith, calls)
 
   to_end : {a : List Word} {E t : Term} {f : Term → Steps} → Phrase entries end expr [] a [] E → Follows entries end (f E) [] (tree t []) → Follows entries end (part expr [] f) a (tree t [])
   to_end {a} {E} p d = parted (phrases_read entries end [] a [] E p refl) d

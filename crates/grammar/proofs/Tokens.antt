@@ -107,12 +107,10 @@ number_is ds n e l h = grind arith
 
 number_by : (ds r : List ℕ) (n : ℕ) → quiet r ≡ true → decimal n ≡ ds → AllByRecursion (λ c. is_ascii_digit c ≡ true) ds → number_kind ds ≡ Number n → 0 < length ds → Scans (number n) r
 number_by [] r n q e h k z = absurd (omega arith)
-number_by (b ∷ w) r n q e h k z = number_scans b w r q n e h.0 h.1 k
+number_by (b ∷ w) r n q e h k z = grind (arith, number_scans)
 
 pub number_sound : (n : ℕ) (r : List ℕ) → 0 < n → n ≤ 65535 → quiet r ≡ true → Scans (number n) r
-number_sound n r z l q =
-    let d = decimal_is_IsNumeral n (omega arith) in
-    number_by (decimal n) r n q refl (all_digits (decimal n) d.0.1) (number_is (decimal n) n d.1 l (first_decimal n z (omega arith))) d.0.0
+number_sound n r z l q = grind (arith, decimal_is_IsNumeral, number_by, all_digits, number_is, first_decimal)
 
 name_is : (x : List ℕ) → reserved x ≡ None → length x ≤ 64 → bytes_eq x (codes "_") ≡ false → word_kind x ≡ Name
 name_is x e l u = grind arith
@@ -150,7 +148,7 @@ word_by m [] r e h q = absurd h
 word_by m (b ∷ w) r e h q = word_scans b w r q (mark m) (Fixed m) e h.0 (all_from word_byte w h.1) h.2 refl
 
 pub word_sound : (m : Mark) {r : List ℕ} → Worded m (spelled (mark m)) → quiet r ≡ true → Scans (mark m) r
-word_sound m {r} h q = word_by m (spelled (mark m)) r refl h q
+word_sound m {r} h q = grind (arith, word_by, spelled)
 
 pub symbol_sound : (m : Mark) (b : ℕ) (w : List ℕ) {r : List ℕ} → spelled (mark m) ≡ b ∷ w → InLine (b ∷ w) → eqb 45 b ≡ false → blank b ≡ false → token_piece b (w ++ r) ≡ token (Fixed m) (suc (length w)) → Scans (mark m) r
 symbol_sound m b w {r} e l d k h =

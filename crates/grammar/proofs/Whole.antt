@@ -62,7 +62,7 @@ Low (arguments E) a = Unit {0}
 Low atom a = begins a ≡ true
 
 head_low : {k : Mark} {a b : List Word} → Takes k a b → code k < 11 → (m : Mark) → leb 11 (code m) ≡ true → is m a ≡ false
-head_low {k} i l m h = differs i m (ne_eqb (code k) (code m) (λ e. omega (arith, leb-true 11 (code m) h)))
+head_low {k} i l m h = grind (arith, differs, ne_eqb, leb-true)
 
 module _ (entries : List Name) (end : ℕ) where
   low : {g : Sign} {sc : List Name} {a z : List Word} {t : Term} → Phrase entries end g sc a z t → Low g a
@@ -150,8 +150,4 @@ module _ (entries : List Name) (end : ℕ) where
   read (a_turned_match i p j k l m n q o r u v w x) s = unnamed i (misses i refl (misses i refl (misses i refl (misses i refl (misses i refl (misses i refl (passes i (parted (read p (stop j refl)) (passes j (passes k (misses l refl (passes l (calls m (passes n (parted (read q (stop o refl)) (passes o (passes r (calls u (passes v (parted (read w (stop x refl)) (passes x given)))))))))))))))))))))
 
 pub phrases_read : PhrasesRead
-phrases_read entries end sc a z t p h =
-    let i = or_parts (begins z) _ h in
-    let j = or_parts (is Times z) _ i.1 in
-    let k = or_parts (is Plus z) _ j.1 in
-    read entries end p (i.0, j.0, k.0, k.1)
+phrases_read entries end sc a z t p h = grind (arith, or_parts, read)
