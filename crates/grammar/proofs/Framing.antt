@@ -1,6 +1,6 @@
 -- Reading looks at no word past the next one: what is read stays read, and what is refused stays
 -- refused, whatever comes later.
-use Rattle.std.proofs.Common.{◌≡◌, ℕ, ◌<◌, Bool, true, false, cond, ◌⊎◌, List, [], ◌∷◌, ◌++◌, length, None, Option, sym, refl, ap, ◌∙◌, subst, inl, inr, append_assoc, arith}
+use Rattle.std.proofs.Common.{◌≡◌, ℕ, ◌<◌, Bool, false, cond, ◌⊎◌, List, [], ◌∷◌, ◌++◌, length, None, Option, sym, refl, ap, ◌∙◌, subst, inl, inr, append_assoc, arith}
 use Rattle.script.specs.declared.token.Mark.{Mark}
 use Rattle.script.specs.declared.token.Mark.TheVariants.{Closes}
 use Rattle.term.specs.declared.node.Binary.TheVariants.{App}
@@ -43,16 +43,15 @@ module _ (entries : List Name) (end : ℕ) where
   fork b E sc = cond b (part atom sc (λ F. part (arguments (binary (place E) App E F)) sc give)) (give E)
 
   no_argument : (b : Bool) (E : Term) (sc : List Name) (x z : List Word) (t : Term) → x ≡ z → Follows entries end (fork b E sc) x (tree t z) → b ≡ false
-  no_argument true E sc x z t e d = grind (arith, not_shorter, eaten)
-  no_argument false E sc x z t e d = refl
+  no_argument b E sc x z t e d = grind (arith, eaten)
 
   -- a production that passed no word asks the same before v
   production_empty : (g : Sign) (sc : List Name) (x z v : List Word) (t : Term) → x ≡ z → Follows entries end (production entries end g sc x) x (tree t z) → Like z v → production entries end g sc x ≡ production entries end g sc v
-  production_empty expr sc x z v t e d l = grind (arith, not_shorter, eaten, eats)
+  production_empty expr sc x z v t e d l = grind (arith, eaten, eats)
   production_empty sums sc x z v t e d l = grind arith
   production_empty products sc x z v t e d l = grind arith
-  production_empty application sc x z v t e d l = grind (arith, not_shorter, eaten, eats)
-  production_empty atom sc x z v t e d l = grind (arith, not_shorter, eaten, eats)
+  production_empty application sc x z v t e d l = grind (arith, eaten, eats)
+  production_empty atom sc x z v t e d l = grind (arith, eaten, eats)
   production_empty (arguments E) sc x z v t e d l =
       let b : begins x ≡ false = no_argument (begins x) E sc x z t e d in
       ap (λ c. fork c E sc) (b ∙ sym (l.beginning (ap begins (sym e) ∙ b)))
@@ -68,12 +67,11 @@ module _ (entries : List Name) (end : ℕ) where
     pub again : (v : List Word) → Like z v → Follows entries end s (front ++ v) (tree t v)
 
   is_still : (m : Mark) (s : Steps) (x u z v : List Word) (t : Term) → is m x ≡ false → x ≡ u ++ z → Joins m ⊎ Eats s → Follows entries end s x (tree t z) → Like z v → is m (u ++ v) ≡ false
-  is_still m s x [] z v t e w (inl j) d l = grind arith
-  is_still m s x [] z v t e w (inr h) d l = grind (arith, not_shorter, eaten)
-  is_still m s x (y ∷ u) z v t e w h d l = subst (λ y. is m y ≡ false) w e
+  is_still m s x [] z v t e w h d l = grind (arith, eaten)
+  is_still m s x (y ∷ u) z v t e w h d l = grind arith
 
   name_still : (s : Steps) (x u z v : List Word) (t : Term) → next_name x ≡ None → x ≡ u ++ z → Eats s → Follows entries end s x (tree t z) → next_name (u ++ v) ≡ None
-  name_still s x [] z v t e w h d = grind (arith, not_shorter, eaten)
+  name_still s x [] z v t e w h d = grind (arith, eaten)
   name_still s x (y ∷ u) z v t e w h d = grind arith
 
   ended_not : (s : Steps) → ((v : List Word) → Quiet v → v ≡ []) → ⊥

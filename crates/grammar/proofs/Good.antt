@@ -10,7 +10,7 @@ use Rattle.script.specs.declared.token.Piece.{Piece}
 use Rattle.script.specs.declared.token.Lexeme.{Lexeme}
 use Rattle.script.specs.Names.{bytes_at}
 use Rattle.script.specs.Tokens.{letter, word_byte, spelt, or_else, kind_or, reserved, word_kind, word_piece, token_piece, piece, sort_words, binder_words, part_words, first_words}
-use Rattle.script.specs.Parts.{parts, parts_from, with_lexeme, lexemes, lexemes_from}
+use Rattle.script.specs.Parts.{parts, parts_from, line_start, with_lexeme, lexemes, lexemes_from}
 use Rattle.script.specs.Statements.{is_name}
 use Rattle.grammar.specs.Text.{GoodName}
 use Rattle.grammar.proofs.Words.{drop_more}
@@ -86,4 +86,4 @@ parts_good s (suc k) f (b ∷ bs) at e = parts_good s k (eqb b 10) bs (suc at) (
 -- each name among a script's lexemes
 pub names_good : (s : List ℕ) (at : ℕ) → AllByRecursion (λ (l : Lexeme). l.kind ≡ Name → is_ascii_alphabetic (get_or s l.at 0) ≡ true → GoodName (bytes_at s l.at l.len)) (lexemes_from s at)
 unfolding lexemes_from parts_from
-names_good s at = grind (arith, parts_good)
+names_good s at = parts_good s 0 (line_start s at) (drop at s) at refl

@@ -103,10 +103,7 @@ module _ (entries : List Name) (end : ℕ) (few : length entries < 2 ^ 64) where
         record { before = []; after = y; whole = refl; place = cc; stays = λ w rest k c. nameless (subst (λ y. next_name y ≡ None) k e) unfit; can = tt }
 
   statement_stuck : (k : StatementKind) (y : List Word) {r : Reading} → Follows entries end (statement k entries (here end y)) y r → (q : ℕ) → r ≡ refusal 3 q → Stuck entries end Nothing (statement k entries (here end y)) y q
-  statement_stuck Def y d q j = grind (arith, new_stuck, value_fine)
-  statement_stuck Axiom y d q j = grind (arith, new_stuck, type_fine)
-  statement_stuck Check y d q j = grind (arith, stuck, judging_fine)
-  statement_stuck Eval y d q j = grind (arith, stuck, judging_fine)
+  statement_stuck k y d q j = grind (arith, new_stuck, value_fine, type_fine, stuck, judging_fine)
 
   -- what completes a statement of a kind, wherever its name stands
   abbrev statement_done : (k : StatementKind) (p : ℕ) → Done entries end Nothing (statement k entries p)
@@ -180,4 +177,4 @@ module _ (entries : List Name) (end : ℕ) (few : length entries < 2 ^ 64) where
       }
 
 pub misfits : Misfits
-misfits entries end ws p few d = grind (arith, by_reading)
+misfits entries end ws p few d = by_reading entries end few ws p d refl

@@ -1,5 +1,5 @@
 -- What is read is a phrase of the grammar.
-use Rattle.std.proofs.Common.{◌≡◌, ℕ, Bool, true, false, cond, List, [], ◌∷◌, Some, None, Option, refl, arith}
+use Rattle.std.proofs.Common.{◌≡◌, ℕ, Bool, true, false, cond, List, [], ◌∷◌, Some, None, Option, refl}
 use Rattle.script.specs.declared.token.Mark.{Mark}
 use Rattle.script.specs.declared.token.Mark.TheVariants.{Opens, Closes, Colon, Maps}
 use Rattle.term.specs.declared.node.Binary.TheVariants.{App}
@@ -125,4 +125,4 @@ module _ (entries : List Name) (end : ℕ) where
   leads {a = a} (parted {g = g} {sc = sc} d k) = by_phrase (a_phrase g sc a (leads d)) (leads k)
 
 pub read_phrases : ReadPhrases
-read_phrases entries end g sc a z t d = grind (arith, a_phrase, leads)
+read_phrases entries end g sc a z t d = a_phrase entries end g sc a (leads entries end d)

@@ -174,16 +174,10 @@ Answered o = (r : Reading) × (o ≡ Some r)
 
 module _ (entries : List Name) (end : ℕ) where
   safe_arguments : (b : Bool) (E : Term) (sc : List Name) (n l : ℕ) → 8 * l + 1 < suc n → Safe n l (cond b (part atom sc (λ F. part (arguments (binary (place E) App E F)) sc give)) (give E))
-  safe_arguments true E sc n l h = grind (arith, at_a_part, safe_past)
-  safe_arguments false E sc n l h = at_give
+  safe_arguments b E sc n l h = grind (arith, at_give, at_a_part, safe_past)
 
   safe : (g : Sign) (sc : List Name) (ws : List Word) (n : ℕ) → 8 * length ws + weight g < suc n → Safe n (length ws) (production entries end g sc ws)
-  safe expr sc ws n h = grind (arith, at_next, safe_past, at_a_part)
-  safe sums sc ws n h = grind (arith, at_a_part, safe_past)
-  safe products sc ws n h = grind (arith, at_a_part, safe_past)
-  safe application sc ws n h = grind (arith, at_next, safe_past, at_a_part)
-  safe (arguments E) sc ws n h = grind (arith, safe_arguments)
-  safe atom sc ws n h = grind (arith, at_a_name, safe_past, at_next, at_misfit)
+  safe g sc ws n h = grind (arith, at_next, at_a_name, at_a_part, at_misfit, safe_past, safe_arguments)
 
   some_test : (b : Bool) (x y : Unit {0} → Option Reading) → (b ≡ true → Answered (x tt)) → Answered (y tt) → Answered (by_test b x y)
   some_test b x y h k = grind arith

@@ -106,8 +106,7 @@ number_is : (ds : List ℕ) (n : ℕ) → digits_value 10 ds ≡ n → n ≤ 655
 number_is ds n e l h = grind arith
 
 number_by : (ds r : List ℕ) (n : ℕ) → quiet r ≡ true → decimal n ≡ ds → AllByRecursion (λ c. is_ascii_digit c ≡ true) ds → number_kind ds ≡ Number n → 0 < length ds → Scans (number n) r
-number_by [] r n q e h k z = absurd (omega arith)
-number_by (b ∷ w) r n q e h k z = grind (arith, number_scans)
+number_by ds r n q e h k z = grind (arith, number_scans)
 
 pub number_sound : (n : ℕ) (r : List ℕ) → 0 < n → n ≤ 65535 → quiet r ≡ true → Scans (number n) r
 number_sound n r z l q = grind (arith, decimal_is_IsNumeral, number_by, all_digits, number_is, first_decimal)
@@ -148,7 +147,7 @@ word_by m [] r e h q = absurd h
 word_by m (b ∷ w) r e h q = word_scans b w r q (mark m) (Fixed m) e h.0 (all_from word_byte w h.1) h.2 refl
 
 pub word_sound : (m : Mark) {r : List ℕ} → Worded m (spelled (mark m)) → quiet r ≡ true → Scans (mark m) r
-word_sound m {r} h q = grind (arith, word_by, spelled)
+word_sound m {r} h q = word_by m (spelled (mark m)) r refl h q
 
 pub symbol_sound : (m : Mark) (b : ℕ) (w : List ℕ) {r : List ℕ} → spelled (mark m) ≡ b ∷ w → InLine (b ∷ w) → eqb 45 b ≡ false → blank b ≡ false → token_piece b (w ++ r) ≡ token (Fixed m) (suc (length w)) → Scans (mark m) r
 symbol_sound m b w {r} e l d k h =

@@ -39,4 +39,4 @@ words_same s (suc k) f (b ∷ bs) at e = words_same s k (eqb b 10) bs (suc at) (
 -- the words of a script from a place on
 pub words_from : (s : List ℕ) (at : ℕ) → words s (lexemes_from s at) ≡ words_of 0 (line_start s at) (drop at s) at
 unfolding lexemes_from parts_from
-words_from s at = grind (arith, words_same)
+words_from s at = words_same s 0 (line_start s at) (drop at s) at refl
