@@ -2,13 +2,12 @@
 use Rattle.std.proofs.Common.{◌≡◌, ℕ, ◌+◌, ◌-◌, ◌<◌, true, false, ◌||◌, eqb, List, [], ◌∷◌, ◌++◌, length, get_or, drop, sym, ap, ◌∙◌, ap₂, subst₂, arith, length-append}
 use lib.Seq.{drop-append_seam}
 use Rattle.std.proofs.lemmas.List.{get_or-drop, drop-drop}
-use Rattle.std.proofs.lemmas.Bool.{or_parts, ne_eqb}
+use Rattle.std.proofs.lemmas.Bool.{ne_eqb}
 use Rattle.std.proofs.lemmas.Grind.{common_steps}
-use Rattle.script.specs.declared.token.Mark.TheVariants.{Times, Plus}
 use Rattle.script.specs.Parts.{line_start, lexemes_from}
 use Rattle.term.specs.Term.{Term}
 use Rattle.grammar.specs.Words.{Word, words}
-use Rattle.grammar.specs.Grammar.{Name, begins, is}
+use Rattle.grammar.specs.Grammar.{Name, begins}
 use Rattle.grammar.specs.Text.{quiet, GoodNames, Printable}
 use Rattle.grammar.specs.RoundTrip.{ReadsAs, RoundTrip}
 use Rattle.grammar.proofs.Back.{Back, back, starts, whole, laid}
@@ -24,11 +23,7 @@ module _ (entries : List Name) (end d at : ℕ) (k : ℕ → List Word) (t : Ter
     term = b.term;
     same = b.same;
     as_atom = b.reads;
-    as_expr = λ h.
-        let i = or_parts (begins (k b.to)) _ h in
-        let j = or_parts (is Times (k b.to)) _ i.1 in
-        let m = or_parts (is Plus (k b.to)) _ j.1 in
-        whole entries end width k b i.0 j.0 m.0 m.1;
+    as_expr = λ h. whole entries end width k b (grind arith) (grind arith) (grind arith) (grind arith);
   }
 
 in_line_at : (w r : List ℕ) (i : ℕ) → InLine w → i < length w → eqb (get_or (w ++ r) i 0) 10 ≡ false
@@ -67,4 +62,4 @@ module _ (s : List ℕ) (at : ℕ) (entries : List Name) (end d : ℕ) (t : Term
       (laid_back entries end d at k t b)
 
 pub round_trip : RoundTrip
-round_trip s at entries end d t rest e good h q = grind (arith, text_items, trip)
+round_trip s at entries end d t rest e good h q = rw text_items (trip s at entries end d t rest (rw text_items at e) good h q)

@@ -1,38 +1,26 @@
 -- A phrase that nothing goes on with is read.
-use Rattle.std.proofs.Common.{◌≡◌, ℕ, ◌<◌, true, false, eqb, ltb, leb, List, None, sym, refl, subst, subst₂, arith, rules}
+use Rattle.std.proofs.Common.{◌≡◌, ℕ, ◌<◌, true, false, eqb, ltb, leb, List, sym, refl, subst, subst₂, arith, rules}
 use Rattle.std.proofs.lemmas.Bool.{leb-true, ne_eqb, or_parts}
 use Rattle.script.specs.declared.token.Mark.{Mark}
 use Rattle.script.specs.declared.token.Mark.TheVariants.{OpensBrace, FstWord, SndWord, InlWord, InrWord, FunWord, PiWord, ForallWord, SigmaWord, ExistsWord, LetWord, Arrow, Plus, Times}
 use Rattle.script.specs.Marks.{code}
 use Rattle.term.specs.Term.{Term, local, entry}
 use Rattle.grammar.specs.Words.{Word}
-use Rattle.grammar.specs.Grammar.{Name, Sign, expr, sums, products, application, atom, arguments, Steps, next, a_name, meant, find_entry, here, is, begins, next_name, Reading, tree, Follows, Reads}
+use Rattle.grammar.specs.Grammar.{Name, Sign, expr, sums, products, application, atom, arguments, Steps, next, a_name, meant, find_entry, here, is, begins, Reading, tree, Follows, Reads}
 use Rattle.grammar.specs.Grammar.Follows.{given, passed, turned, named, nameless, numbered, parted}
 use Rattle.grammar.specs.Phrases.{Takes, took, Calls, called, counted, Phrase, PhrasesRead}
 use Rattle.grammar.specs.Phrases.Phrase.{a_function, a_typed_function, a_pi, a_forall, a_sigma, an_exists, a_let, a_typed_let, an_unpack, no_arrow, an_arrow, no_plus, a_sum, no_times, a_product}
 use Rattle.grammar.specs.Phrases.Phrase.{by_atom, by_fst, by_snd, by_inl, by_inr, no_more, one_more, a_local, an_entry, a_type, a_prop, a_kind, a_sort, a_group, an_ascription, a_pair, a_pack, a_match, a_turned_match}
 use Rattle.grammar.proofs.Atoms.{plain, no_arguments, argument}
 
-differs_at : (m k : Mark) (a : List Word) → is m a ≡ true → eqb (code m) (code k) ≡ false → is k a ≡ false
-differs_at m k a e h = search rules
-
-halts_at : (m : Mark) (a : List Word) → is m a ≡ true → ltb (code m) 7 ≡ false → begins a ≡ false
-halts_at m a e h = grind arith
-
-starts_at : (m : Mark) (a : List Word) → is m a ≡ true → ltb (code m) 7 ≡ true → begins a ≡ true
-starts_at m a e h = grind arith
-
-unnamed_at : (m : Mark) (a : List Word) → is m a ≡ true → next_name a ≡ None
-unnamed_at m a e = grind arith
-
 differs : {m : Mark} {a b : List Word} → Takes m a b → (k : Mark) → eqb (code m) (code k) ≡ false → is k a ≡ false
-differs {m} {a} (took e) k h = differs_at m k a e h
+differs (took e) k h = search rules
 
 halts : {m : Mark} {a b : List Word} → Takes m a b → ltb (code m) 7 ≡ false → begins a ≡ false
-halts {m} {a} (took e) h = halts_at m a e h
+halts (took e) h = grind arith
 
 starts : {m : Mark} {a b : List Word} → Takes m a b → ltb (code m) 7 ≡ true → begins a ≡ true
-starts {m} {a} (took e) h = starts_at m a e h
+starts (took e) h = grind arith
 
 named_begins : {x : Name} {a b : List Word} → Calls x a b → begins a ≡ true
 named_begins e = grind arith
@@ -111,7 +99,7 @@ module _ (entries : List Name) (end : ℕ) where
   calls (called e) d = named e d
 
   unnamed : {m : Mark} {f : Name → Steps} {q : Steps} {a b : List Word} {r : Reading} → Takes m a b → Follows entries end q a r → Follows entries end (a_name f q) a r
-  unnamed {m} {a = a} (took e) d = nameless (unnamed_at m a e) d
+  unnamed (took e) d = nameless (grind arith) d
 
   pub read : {g : Sign} {sc : List Name} {a z : List Word} {t : Term} → Phrase entries end g sc a z t → Stops g z → Reads entries end g sc a (tree t z)
   read (a_function i j k p) s = passes i (calls j (passes k (parted (read p s) given)))
