@@ -1,5 +1,6 @@
 pub mod Marks
 pub mod Tokens
+pub mod Spellings
 pub mod Parts
 pub mod Scan
 pub mod Statements

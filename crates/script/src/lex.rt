@@ -63,7 +63,7 @@ impl Run {
 fn name(w: &[u8]) -> Kind
     ensures { result ≡ name_kind w.now }
 {
-    if w.len() <= 64 && !spell::same(b"_", w) {
+    if w.len() <= 64 && w != b"_".as_slice() {
         Kind::Name
     } else {
         Kind::NoToken
