@@ -1,6 +1,6 @@
 -- The reader of statements, lexeme by lexeme.
 use Rattle.std.proofs.Common.{◌≡◌, ℕ, ◌+◌, ◌≤◌, true, false, List, [], ◌∷◌, length, Some, None, Option, sym, refl, ap, ◌∙◌, subst, ap₂, arith}
-use Rattle.script.specs.declared.token.Lexeme.{Lexeme}
+use Rattle.script.specs.Lexemes.{Lexeme}
 use Rattle.script.specs.declared.statement.Span.{Span}
 use Rattle.script.specs.declared.statement.StatementKind.{StatementKind}
 use Rattle.script.specs.declared.statement.Tally.{Tally}

@@ -1,4 +1,5 @@
 pub mod Marks
+pub mod Lexemes
 pub mod Tokens
 pub mod Spellings
 pub mod Parts

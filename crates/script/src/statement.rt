@@ -8,7 +8,7 @@ ghost use Rattle.script.specs.Walk.{one_more, none_yet};
 use crate::token::{FirstWord, Kind, Lexeme};
 
 /// What a statement does. `theorem` and `lemma` spell `def`, `constant` spells `axiom`.
-#[derive(Clone, Copy)]
+#[derive(Clone, Copy, PartialEq, Eq, Debug)]
 pub enum StatementKind {
     Def,
     Axiom,
@@ -17,7 +17,7 @@ pub enum StatementKind {
 }
 
 /// Bytes of the script.
-#[derive(Clone, Copy)]
+#[derive(Clone, Copy, PartialEq, Eq, Debug)]
 pub struct Span {
     pub at: usize,
     pub len: usize,
@@ -26,7 +26,7 @@ pub struct Span {
 /// A statement's first byte, the byte past its end, its kind if its first lexeme is one of the
 /// seven words, the name that a def or an axiom would enter, how many lexemes it has, and the
 /// place of the first that is no token.
-#[derive(Clone, Copy)]
+#[derive(Clone, Copy, PartialEq, Eq, Debug)]
 pub struct Statement {
     pub at: usize,
     pub end: usize,
@@ -37,14 +37,14 @@ pub struct Statement {
 }
 
 /// Why a statement is refused before it is read, with the place.
-#[derive(Clone, Copy)]
+#[derive(Clone, Copy, PartialEq, Eq, Debug)]
 pub enum ScriptFault {
     NoToken(usize),
     TooManyTokens(usize),
 }
 
 /// How many lexemes there were, and the place of the first that is no token.
-#[derive(Clone, Copy)]
+#[derive(Clone, Copy, PartialEq, Eq, Debug)]
 pub struct Tally {
     pub tokens: usize,
     pub wrong: Option<usize>,
