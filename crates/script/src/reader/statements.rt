@@ -12,16 +12,14 @@ impl<'a> Reader<'a> {
         ensures script { script self.new ≡ script self.old }
         ensures counted { Counted (script self.old) self.old.at self.new.at tally result }
     {
-        loop {
-            let Some(lexeme) = self.seek() else {
-                return tally
-            };
+        while let Some(lexeme) = self.seek() {
             if lexeme.begins_statement() {
-                return tally;
+                break;
             }
             self.at += lexeme.len;
             tally = tally.with(lexeme);
         }
+        tally
     }
 
     /// The next statement, passed; none where only blanks and comments are left.
@@ -29,9 +27,7 @@ impl<'a> Reader<'a> {
         ensures script { script self.new ≡ script self.old }
         ensures taken { StatementTaken (script self.old) self.old.at self.new.at result }
     {
-        let Some(first) = self.next_lexeme() else {
-            return None
-        };
+        let first = self.next_lexeme()?;
         let kind = first.kind.statement_kind();
         let second = self.seek();
         let name = entered_name(self.script, kind, second);
