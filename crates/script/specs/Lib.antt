@@ -7,6 +7,7 @@ pub mod Scan
 pub mod Statements
 pub mod Walk
 pub mod View
+pub mod Left
 pub mod Laws
 pub mod Names
 pub mod Faults

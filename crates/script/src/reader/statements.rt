@@ -1,6 +1,9 @@
 //! How a reader moves over statements.
 ghost use Rattle.std.specs.Prelude.{◌≡◌, ◌≤◌};
+ghost use Rattle.std.specs.Iterator.{YieldsFirst, item_count};
+ghost use Rattle.script.specs.Statements.{statements_from};
 ghost use Rattle.script.specs.View.{script, Counted, StatementTaken};
+ghost use Rattle.script.specs.Left.{left};
 
 use super::Reader;
 use crate::statement::{Statement, Tally, entered_name};
@@ -40,5 +43,30 @@ impl<'a> Reader<'a> {
             tokens: tally.tokens,
             wrong: tally.wrong,
         })
+    }
+
+    /// The statements before it, one after the other.
+    pub fn statements(self) -> Statements<'a>
+        ensures { left result ≡ statements_from (script self.entry) self.entry.at }
+    {
+        Statements { reader: self }
+    }
+}
+
+/// The statements that a reader has before it, as an iterator.
+#[derive(Drop)]
+pub struct Statements<'a> {
+    reader: Reader<'a>,
+}
+
+impl<'a> Iterator for Statements<'a> {
+    type Item = Statement;
+
+    ghost next_gives = { YieldsFirst left };
+
+    ghost remaining = { item_count left };
+
+    fn next(&mut self) -> Option<Statement> {
+        self.reader.next_statement()
     }
 }

@@ -3,4 +3,4 @@ use Rattle.script.proofs.Nearest.{last_is_nearest}
 use Rattle.script.proofs.names.find.Goals as goal
 
 pub returns : goal.returns
-returns g c = last_is_nearest _ c.args.records.now c.rposition.result (search rules)
+returns g c = last_is_nearest _ c.args.records.now _ (search rules)
