@@ -1,10 +1,12 @@
 -- The reader of statements, lexeme by lexeme.
-use Rattle.std.proofs.Common.{◌≡◌, ℕ, ◌+◌, ◌≤◌, true, false, List, [], ◌∷◌, length, Some, None, Option, sym, refl, ap, ◌∙◌, subst, ap₂, arith}
-use Rattle.script.specs.declared.token.Lexeme.{Lexeme}
+use Rattle.std.proofs.Common.{◌≡◌, ℕ, ◌+◌, ◌≤◌, true, false, List, [], ◌∷◌, length, Some, None, Option, MatchOption, sym, refl, ap, ◌∙◌, subst, ap₂, arith}
+use Rattle.std.proofs.lemmas.List.{at_drop_all}
+use Rattle.script.specs.Lexemes.{Lexeme}
 use Rattle.script.specs.declared.statement.Span.{Span}
 use Rattle.script.specs.declared.statement.StatementKind.{StatementKind}
 use Rattle.script.specs.declared.statement.Tally.{Tally}
-use Rattle.script.specs.Parts.{lexemes_from}
+use Rattle.script.specs.declared.statement.Statement.{Statement}
+use Rattle.script.specs.Parts.{parts, line_start, parts_from, lexemes, lexemes_from}
 use Rattle.script.specs.Statements.{statement_kind, first_word, runs, first_wrong, head, entered, summary, summaries, start_of, statements_from}
 use Rattle.script.specs.Walk.{none_yet, one_more, tally, until, from_next, begin_at}
 use Rattle.script.specs.View.{LexemeAhead, Sought, LexemeTaken, Counted, StatementTaken}
@@ -91,3 +93,13 @@ stated_since s s₁ s₂ from a b c l kind second name t₀ t e₁ e₂ h ke k n
 pub none_stated : (s : List ℕ) (from to : ℕ) → LexemeTaken s from to None → StatementTaken s from to None
 unfolding statements_from
 none_stated s from to h = (ap (λ ls. summaries s (runs ls)) h.0, h.1)
+
+-- at the script's end no statement is left
+none_left : (s : List ℕ) (at : ℕ) → at ≡ length s → statements_from s at ≡ []
+unfolding statements_from lexemes_from parts_from
+none_left s at e = at_drop_all (λ bs. summaries s (runs (lexemes (parts 0 (line_start s at) bs at)))) s at (omega arith)
+
+-- a statement that is passed is the first of those that were left
+pub first_left : (s s' : List ℕ) (from to : ℕ) (r : Option Statement) → s' ≡ s → StatementTaken s from to r → MatchOption r ((statements_from s from ≡ []) × (statements_from s' to ≡ [])) (λ st. statements_from s from ≡ st ∷ statements_from s' to)
+first_left s s' from to None e h = (h.0, ap (λ t. statements_from t to) e ∙ none_left s to h.1)
+first_left s s' from to (Some st) e h = h.0 ∙ ap (λ t. st ∷ statements_from t to) (sym e)

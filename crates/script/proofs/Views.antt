@@ -2,8 +2,7 @@
 use Rattle.std.proofs.Common.{◌≡◌, ℕ, ◌+◌, ◌≤◌, Bool, List, length, drop, Some, None, Option, sym, refl, ap, ◌∙◌, subst, ap₂, arith, length-drop}
 use Rattle.script.specs.declared.token.Kind.{Kind}
 use Rattle.script.specs.declared.token.Piece.{Piece}
-use Rattle.script.specs.declared.token.Part.{Part}
-use Rattle.script.specs.declared.token.Lexeme.{Lexeme}
+use Rattle.script.specs.Lexemes.{Part, Lexeme}
 use Rattle.script.specs.Tokens.{next_piece}
 use Rattle.script.specs.Parts.{placed, line_start, parts_from, lexemes_from, lexemes, with_lexeme}
 use Rattle.script.specs.View.{PartAhead, LexemeAhead, Sought}

@@ -1,7 +1,6 @@
 -- What a reader has before it, and how it moves.
 use Rattle.std.specs.Prelude.{◌≡◌, ℕ, ◌+◌, ◌<◌, ◌≤◌, List, [], ◌∷◌, length, Some, None, Option}
-use Rattle.script.specs.declared.token.Part.{Part}
-use Rattle.script.specs.declared.token.Lexeme.{Lexeme}
+use Rattle.script.specs.Lexemes.{Part, Lexeme}
 use Rattle.script.specs.declared.statement.Statement.{Statement}
 use Rattle.script.specs.declared.statement.Tally.{Tally}
 use Rattle.script.specs.declared.reader.Reader.{Reader}

@@ -65,9 +65,7 @@ impl<'a> Reader<'a> {
     pub fn peek(&self) -> Option<Part>
         ensures { PartAhead (script self.now) self.now.at result }
     {
-        let Some(piece) = lex::first_piece(self.fresh(), self.rest()) else {
-            return None
-        };
+        let piece = lex::first_piece(self.fresh(), self.rest())?;
         Some(Part {
             kind: piece.kind,
             at: self.at,
@@ -80,7 +78,7 @@ impl<'a> Reader<'a> {
         ensures script { script self.new ≡ script self.old }
         ensures taken { PartTaken (script self.old) self.old.at self.new.at result }
     {
-        let Some(part) = self.peek() else { return None };
+        let part = self.peek()?;
         self.at += part.len;
         Some(part)
     }
@@ -90,8 +88,7 @@ impl<'a> Reader<'a> {
         ensures script { script self.new ≡ script self.old }
         ensures sought { Sought (script self.old) self.old.at self.new.at result }
     {
-        loop {
-            let Some(part) = self.peek() else { return None };
+        while let Some(part) = self.peek() {
             if let Some(kind) = part.kind {
                 return Some(Lexeme {
                     kind,
@@ -101,6 +98,7 @@ impl<'a> Reader<'a> {
             }
             self.at += part.len;
         }
+        None
     }
 
     /// The next lexeme, passed; none at the end.
@@ -108,9 +106,7 @@ impl<'a> Reader<'a> {
         ensures script { script self.new ≡ script self.old }
         ensures taken { LexemeTaken (script self.old) self.old.at self.new.at result }
     {
-        let Some(lexeme) = self.seek() else {
-            return None
-        };
+        let lexeme = self.seek()?;
         self.at += lexeme.len;
         Some(lexeme)
     }
