@@ -9,22 +9,23 @@ use crate::faults::{Full, Spent, Unmade};
 use crate::node::{Cell, Node};
 use std::alloc::Global;
 
+// The root of the tree where no term stands.
+const BLANK: Node = Node::Sort(0, 0);
+
 impl Arena {
     // An empty arena for `limit` cells, with all of them as its budget.
     pub fn new(heap: Global, limit: usize) -> Result<Arena, Unmade>
         ensures { Opened limit result }
     {
-        if limit == 0 || limit > 1_000_000 {
+        if !(1..=1_000_000).contains(&limit) {
             return Err(Unmade::Size);
         }
-        match Vec::with_capacity(heap, limit) {
-            Ok(pool) => Ok(Arena {
-                pool,
-                left: limit,
-                limit,
-            }),
-            Err(_) => Err(Unmade::Memory),
-        }
+        let pool = Vec::with_capacity(heap, limit)?;
+        Ok(Arena {
+            pool,
+            left: limit,
+            limit,
+        })
     }
 
     // What is left of the budget.
@@ -45,10 +46,7 @@ impl Arena {
     pub fn spend(&mut self, cost: usize) -> Result<(), Spent>
         ensures { Spends self.old self.new cost result }
     {
-        if self.left < cost {
-            return Err(Spent);
-        }
-        self.left -= cost;
+        self.left = self.left.checked_sub(cost).ok_or(Spent)?;
         Ok(())
     }
 
@@ -88,11 +86,7 @@ impl Arena {
     pub(super) fn cell(&self, id: usize) -> Cell
         ensures { Holds self.now id result }
     {
-        if id < self.pool.len() {
-            self.pool[id]
-        } else {
-            Cell::Part(Node::Sort(0, 0))
-        }
+        self.pool.get(id).copied().unwrap_or(Cell::Part(BLANK))
     }
 
     // The root of the tree at `id`, a blank one where no term stands there.
@@ -101,7 +95,7 @@ impl Arena {
     {
         match self.cell(id) {
             Cell::Part(node) => node,
-            Cell::Under(_) => Node::Sort(0, 0),
+            Cell::Under(_) => BLANK,
         }
     }
 

@@ -18,13 +18,11 @@ impl Arena {
     }
 
     // What is left of `purse` once each cell of the tree has cost 1.
+    #[tactic(auto, using(crate::proofs::Trees::cells_pos))]
     fn pay(&self, id: usize, purse: usize) -> Option<usize>
         ensures { result ≡ rest purse (cells (term self.now id)) }
     {
-        if purse == 0 {
-            return None;
-        }
-        let purse = purse - 1;
+        let purse = purse.checked_sub(1)?;
         match self.at(id) {
             Node::Sort(_, _) | Node::Local(_, _) | Node::Entry(_, _) => { Some(purse) }
             Node::One(_, _, a) => self.pay(a, purse),

@@ -23,8 +23,7 @@ impl Arena {
         if self.names(n, id) {
             return Ok(None);
         }
-        let low = self.walk(Lower(n), 0, id)?;
-        Ok(Some(low))
+        self.walk(Lower(n), 0, id).map(Some)
     }
 
     // The tree with terms put in for its nearest binders, the first for the nearest one.
