@@ -6,6 +6,7 @@ use crate::node::Cell;
 
 pub mod cells;
 pub mod contexts;
+mod gap;
 pub mod looks;
 pub mod store;
 pub mod walks;

@@ -1,8 +1,9 @@
 //! Making the arena, reading and adding cells, and paying for them.
 ghost use Rattle.std.specs.Prelude.{◌≡◌, ℕ, ◌+◌, ◌*◌, ◌^◌, ◌<◌, ◌≤◌};
-ghost use Rattle.term.specs.Cells.{form, reach, high, span, peak};
+ghost use Rattle.term.specs.Cells.{form, MayStandAt};
 ghost use Rattle.term.specs.State.{term, cells_in, Opened, Holds, Read, Spends, Pushes, Added, Built, Allots, Rewound};
 ghost use Rattle.term.specs.Term.{place};
+ghost use Rattle.term.specs.declared.node.Cell.TheVariants.{Part};
 
 use crate::arena::Arena;
 use crate::faults::{Full, Spent, Unmade};
@@ -53,8 +54,7 @@ impl Arena {
     // One cell more, which `spend` has paid for: what it refers to is there, and there is room.
     pub(super) fn push(&mut self, cell: Cell) -> usize
         requires free { cells_in self.old + self.old.left < self.old.limit }
-        requires lower { span cell ≤ cells_in self.old }
-        requires small { peak cell < (cells_in self.old + 1) * 2 ^ 32 }
+        requires fits { MayStandAt (cells_in self.old) cell }
         ensures { Pushes self.old self.new cell result }
     {
         let id = self.pool.len();
@@ -65,8 +65,7 @@ impl Arena {
     // One cell of a term more, which `spend` has paid for.
     pub fn add(&mut self, node: Node) -> usize
         requires free { cells_in self.old + self.old.left < self.old.limit }
-        requires lower { reach node ≤ cells_in self.old }
-        requires small { high node < (cells_in self.old + 1) * 2 ^ 32 }
+        requires fits { MayStandAt (cells_in self.old) (Part node) }
         ensures { Added self.old self.new node result }
     {
         self.push(Cell::Part(node))
@@ -74,8 +73,7 @@ impl Arena {
 
     // One cell more, which costs 1.
     pub fn make(&mut self, node: Node) -> Result<usize, Spent>
-        requires lower { reach node ≤ cells_in self.old }
-        requires small { high node < (cells_in self.old + 1) * 2 ^ 32 }
+        requires fits { MayStandAt (cells_in self.old) (Part node) }
         ensures { Built self.old self.new 1 (form node (term self.old)) result }
     {
         self.spend(1)?;
