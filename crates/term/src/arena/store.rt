@@ -36,13 +36,10 @@ impl Arena {
         requires below { gap.top ≤ cells_in self.old }
         ensures { LaysAll self.old self.new gap (bound value (term self.old)) result }
     {
-        match value {
-            None => Ok(None),
-            Some(id) => {
-                let copied = self.copy(gap, id)?;
-                Ok(Some(copied))
-            }
-        }
+        let Some(id) = value else {
+            return Ok(None);
+        };
+        self.copy(gap, id).map(Some)
     }
 
     // One cell on the top, which costs 1. Gives the index that it has once the gap is closed, at
