@@ -6,7 +6,7 @@ ghost use Rattle.std.specs.Prelude.{ℕ, ◌<◌, IfOk};
 ghost use Rattle.term.specs.State.{cells_in, Kept};
 
 use std::time::Instant;
-use term::arena::Arena;
+use term::arena::{Arena, MOST_CELLS};
 use term::faults::Spent;
 use term::laws;
 use term::node::{Binary, Node, Unary};
@@ -33,12 +33,12 @@ fn grow(arena: &mut Arena, size: usize, leaf: u64) -> Result<usize, Spent>
 
 // The cells of a tree, which are few enough.
 fn cells(arena: &Arena, id: usize) -> usize {
-    arena.count(id, 1_000_000).unwrap_or(0)
+    arena.count(id, MOST_CELLS).unwrap_or(0)
 }
 
 // Lifts a tree of `size` cells by 1, and puts a sort into it.
 fn measure(rt: &HostRuntime, size: usize) -> anyhow::Result<()> {
-    let mut arena = Arena::new(rt.alloc(), 1_000_000)?;
+    let mut arena = Arena::new(rt.alloc(), MOST_CELLS)?;
     let tree = grow(&mut arena, size, 0)?;
     let sort = arena.make(Node::Sort(0, 0))?;
     let start = Instant::now(rt)?;

@@ -1,11 +1,11 @@
 //! Making the arena, reading and adding cells, and paying for them.
 ghost use Rattle.std.specs.Prelude.{◌≡◌, ℕ, ◌+◌, ◌*◌, ◌^◌, ◌<◌, ◌≤◌};
 ghost use Rattle.term.specs.Cells.{form, MayStandAt};
-ghost use Rattle.term.specs.State.{term, cells_in, Opened, Holds, Read, Spends, Pushes, Added, Built, Allots, Rewound};
+ghost use Rattle.term.specs.State.{term, cells_in, Opened, Holds, Read, Spends, Pushes, Added, Built, Allots, Rewound, HasSpare};
 ghost use Rattle.term.specs.Term.{place};
 ghost use Rattle.term.specs.declared.node.Cell.TheVariants.{Part};
 
-use crate::arena::Arena;
+use crate::arena::{Arena, MOST_CELLS};
 use crate::faults::{Full, Spent, Unmade};
 use crate::node::{Cell, Node};
 use std::alloc::Global;
@@ -18,7 +18,7 @@ impl Arena {
     pub fn new(heap: Global, limit: usize) -> Result<Arena, Unmade>
         ensures { Opened limit result }
     {
-        if !(1..=1_000_000).contains(&limit) {
+        if !(1..=MOST_CELLS).contains(&limit) {
             return Err(Unmade::Size);
         }
         let pool = Vec::with_capacity(heap, limit)?;
@@ -53,7 +53,7 @@ impl Arena {
 
     // One cell more, which `spend` has paid for: what it refers to is there, and there is room.
     pub(super) fn push(&mut self, cell: Cell) -> usize
-        requires free { cells_in self.old + self.old.left < self.old.limit }
+        requires free { HasSpare self.old }
         requires fits { MayStandAt (cells_in self.old) cell }
         ensures { Pushes self.old self.new cell result }
     {
@@ -64,7 +64,7 @@ impl Arena {
 
     // One cell of a term more, which `spend` has paid for.
     pub fn add(&mut self, node: Node) -> usize
-        requires free { cells_in self.old + self.old.left < self.old.limit }
+        requires free { HasSpare self.old }
         requires fits { MayStandAt (cells_in self.old) (Part node) }
         ensures { Added self.old self.new node result }
     {

@@ -1,6 +1,6 @@
 //! Questions about trees that cost nothing: counting cells, equality, whether a tree is closed.
 ghost use Rattle.std.specs.Prelude.{◌≡◌, ℕ, ◌+◌, ◌*◌, ◌^◌, ◌<◌, ◌≤◌, min, MatchBool, ◌≢◌};
-ghost use Rattle.term.specs.State.{term, capped};
+ghost use Rattle.term.specs.State.{term, capped, Shallow};
 ghost use Rattle.term.specs.Term.{cells, bare, any_local, names, closed};
 ghost use Rattle.term.specs.Walk.{rest};
 
@@ -76,7 +76,7 @@ impl Arena {
 
     // Whether the test holds of a local of the tree, over which `cut` binders stand.
     fn any_local<T: Test>(&self, test: T, cut: u32, id: usize) -> bool
-        requires { cut + 2 * min id 1000000 < 2 ^ 32 }
+        requires { Shallow cut id }
         ensures { result ≡ any_local (T.asked test) cut (term self.now id) }
     {
         match self.at(id) {

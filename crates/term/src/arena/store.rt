@@ -60,9 +60,9 @@ impl Arena {
         ensures { Lays self.old self.new gap (lay (close self.old gap) (term self.old id)) (cells (term self.old id)) result }
     {
         match self.at(id) {
-            Node::Sort(p, s) => self.lay(gap, Node::Sort(p, s)),
-            Node::Local(p, k) => self.lay(gap, Node::Local(p, k)),
-            Node::Entry(p, j) => self.lay(gap, Node::Entry(p, j)),
+            leaf @ (Node::Sort(_, _) | Node::Local(_, _) | Node::Entry(_, _)) => {
+                self.lay(gap, leaf)
+            }
             Node::One(p, form, a) => {
                 let a = self.copy(gap, a)?;
                 self.lay(gap, Node::One(p, form, a))

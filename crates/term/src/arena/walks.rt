@@ -1,6 +1,6 @@
 //! Lifting, lowering and putting in: one walk, which makes a new tree and costs its cells.
 ghost use Rattle.std.specs.Prelude.{◌≡◌, ℕ, ◌+◌, ◌*◌, ◌^◌, ◌<◌, ◌≤◌, min, All, map};
-ghost use Rattle.term.specs.State.{term, cells_in, Built, Lowered};
+ghost use Rattle.term.specs.State.{term, cells_in, Built, Lowered, Shallow};
 ghost use Rattle.term.specs.Term.{cells, walk, lift, lower, put};
 
 use crate::arena::Arena;
@@ -37,13 +37,12 @@ impl Arena {
     // The tree, over which `cut` binders stand, with each local changed.
     fn walk<C: Change>(&mut self, change: C, cut: u32, id: usize) -> Result<usize, Spent>
         requires given { C.given change self.old }
-        requires shallow { cut + 2 * min id 1000000 < 2 ^ 32 }
+        requires shallow { Shallow cut id }
         ensures { Built self.old self.new (cells (walk (C.changed change self.old) cut (term self.old id))) (walk (C.changed change self.old) cut (term self.old id)) result }
     {
         match self.at(id) {
-            Node::Sort(p, s) => self.make(Node::Sort(p, s)),
+            leaf @ (Node::Sort(_, _) | Node::Entry(_, _)) => self.make(leaf),
             Node::Local(p, k) => change.local(self, cut, p, k),
-            Node::Entry(p, j) => self.make(Node::Entry(p, j)),
             Node::One(p, form, a) => {
                 let a = self.walk(change, form.binders() + cut, a)?;
                 self.make(Node::One(p, form, a))
