@@ -1,12 +1,12 @@
 -- What is derived of terms whose locals have their binders has no other locals.
-use Rattle.std.proofs.Common.{◌≡◌, ℕ, zero, suc, ◌+◌, Bool, true, false, cond, not, ◌&&◌, ◌||◌, eqb, List, [], ◌∷◌, length, Some, None, Option, sym, refl, ap, ◌∙◌, subst, arith}
+use Rattle.std.proofs.Common.{◌≡◌, ℕ, zero, suc, ◌+◌, Bool, true, false, cond, List, [], ◌∷◌, length, Some, None, Option, sym, refl, ap, ◌∙◌, subst, arith}
 use Rattle.std.specs.List.{slice_get}
 use Rattle.term.specs.declared.node.Unary.{Unary}
 use Rattle.term.specs.declared.node.Unary.TheVariants.{Fun, Fst, Snd, Inl, Inr}
 use Rattle.term.specs.declared.node.Binary.{Binary}
 use Rattle.term.specs.declared.node.Binary.TheVariants.{Pi, Sigma, Exists, Typed, App, Pair, Pack, Unpack, Sum, Ascribe, Let}
-use Rattle.term.specs.Forms.{binds, binds_last, code, code_two}
-use Rattle.term.specs.Term.{Term, sort, local, entry, unary, binary, choice, any_local, leaving, closed, all_closed, lift, lower, put}
+use Rattle.term.specs.Forms.{binds, binds_last}
+use Rattle.term.specs.Term.{Term, sort, local, entry, unary, binary, choice, closed, all_closed, lift, lower, put}
 use Rattle.term.specs.Cells.{Bound, bindings}
 use Rattle.term.proofs.Lifting.{lift_closed, closed_lift}
 use Rattle.term.proofs.Putting.{put_closed, lower_closed}
@@ -15,30 +15,15 @@ use Rattle.rules.specs.Rules as r
 use Rattle.rules.specs.declared.refusal.Reason.{Reason}
 use Rattle.rules.specs.Derivation.{System, Derives, rule_use, Chain, done, paid, told, proved, equal}
 use Rattle.rules.specs.Scope.{closed_value, Sealed, Bounded, Fixed, Scoped, depth}
-use Rattle.rules.proofs.Alike.{unary_same, binary_same}
-
-not_or : (a b : Bool) → not (a || b) ≡ true → (not a ≡ true) × (not b ≡ true)
-not_or true b e = absurd (let z : ◌≡◌ {A = ℕ} 0 1 = cc in omega arith)
-not_or false b e = (refl, e)
-
-both_not : (a b : Bool) → not a ≡ true → not b ≡ true → not (a || b) ≡ true
-both_not true b e h = absurd (let z : ◌≡◌ {A = ℕ} 0 1 = cc in omega arith)
-both_not false b e h = h
-
-none_some : {A B : Type 0} {x : A} → ◌≡◌ {A = Option A} None (Some x) → B
-none_some e = absurd (let z : ◌≡◌ {A = ℕ} 0 1 = cc in omega arith)
-
-some_same : {A : Type 0} {x y : A} → ◌≡◌ {A = Option A} (Some x) (Some y) → x ≡ y
-some_same e = cc
 
 pub record Shut (d : ℕ) (t : Term) : Type 0 where
   pub is : closed d t ≡ true
 
 shut : (d : ℕ) (t : Term) → closed d t ≡ true → Shut d t
-shut d t e = record { is = e }
+shut d t e = grind arith
 
 at_depth : {m n : ℕ} {t : Term} → m ≡ n → Shut m t → Shut n t
-at_depth {t = t} e h = subst (λ k. Shut k t) e h
+at_depth e h = grind arith
 
 -- k binders more, in a form that computes
 abbrev more : ℕ → ℕ → ℕ
@@ -54,28 +39,25 @@ module _ {d p : ℕ} where
   shut_sort = record { is = refl }
 
   up : (u : Unary) {E : Term} → Shut (more (binds u) d) E → Shut d (unary p u E)
-  up u {E} e = record { is = (at_depth {n = binds u + d} (more_plus (binds u) d) e).is }
+  up u e = grind (arith, more_plus)
 
   one : {u : Unary} {E : Term} → Shut d (unary p u E) → Shut (more (binds u) d) E
-  one {u} {E} e = at_depth (sym (more_plus (binds u) d)) (shut (binds u + d) E e.is)
+  one e = grind (arith, more_plus)
 
   fst_of : {b : Binary} {E F : Term} → Shut d (binary p b E F) → Shut d E
-  fst_of {b} {E} {F} e = record { is = (not_or (any_local leaving d E) (any_local leaving (binds_last b + d) F) e.is).0 }
+  fst_of e = grind arith
 
   snd_of : {b : Binary} {E F : Term} → Shut d (binary p b E F) → Shut (more (binds_last b) d) F
-  snd_of {b} {E} {F} e = at_depth (sym (more_plus (binds_last b) d)) (shut (binds_last b + d) F (not_or (any_local leaving d E) (any_local leaving (binds_last b + d) F) e.is).1)
+  snd_of e = grind (arith, more_plus)
 
   two : (b : Binary) {E F : Term} → Shut d E → Shut (more (binds_last b) d) F → Shut d (binary p b E F)
-  two b {E} {F} e f = record { is = both_not (any_local leaving d E) (any_local leaving (binds_last b + d) F) e.is (at_depth {n = binds_last b + d} (more_plus (binds_last b) d) f).is }
+  two b e f = grind (arith, more_plus)
 
   three : {E F G : Term} → Shut d E → Shut (suc d) F → Shut (suc d) G → Shut d (choice p E F G)
-  three {E} {F} {G} e f g = record { is = both_not (any_local leaving d E) (any_local leaving (1 + d) F || any_local leaving (1 + d) G) e.is (both_not (any_local leaving (1 + d) F) (any_local leaving (1 + d) G) (at_depth {n = 1 + d} (omega arith) f).is (at_depth {n = 1 + d} (omega arith) g).is) }
+  three e f g = grind arith
 
   of_three : {E F G : Term} → Shut d (choice p E F G) → Shut d E × Shut (suc d) F × Shut (suc d) G
-  of_three {E} {F} {G} e =
-      let a = not_or (any_local leaving d E) (any_local leaving (1 + d) F || any_local leaving (1 + d) G) e.is in
-      let b = not_or (any_local leaving (1 + d) F) (any_local leaving (1 + d) G) a.1 in
-      (record { is = a.0 }, at_depth (omega arith) (shut (1 + d) F b.0), at_depth (omega arith) (shut (1 + d) G b.1))
+  of_three e = grind arith
 
 -- what lifting, putting in and lowering leave
 lifted : {m : ℕ} {t : Term} (n d : ℕ) → m + n ≡ d → Shut m t → Shut d (lift n 0 t)
@@ -85,10 +67,10 @@ wide : {t : Term} (n : ℕ) → Shut 0 t → Shut n t
 wide {t} n h = subst (λ u. Shut n u) (closed_lift n 0 t h.is) (lifted n n (omega arith) h)
 
 all_one : (d : ℕ) (v : Term) → closed d v ≡ true → all_closed d (v ∷ []) ≡ true
-all_one d v h = ap (λ (b : Bool). b && true) h
+all_one d v h = grind arith
 
 all_two : (d : ℕ) (v w : Term) → closed d v ≡ true → closed d w ≡ true → all_closed d (v ∷ (w ∷ [])) ≡ true
-all_two d v w h k = ap (λ (b : Bool). b && (closed d w && true)) h ∙ ap (λ (b : Bool). b && true) k
+all_two d v w h k = grind arith
 
 put_one : {d : ℕ} {v t : Term} → Shut d v → Shut (suc d) t → Shut d (put (v ∷ []) 0 t)
 put_one {d} {v} {t} h e = at_depth (omega arith) (shut (d + 0) (put (v ∷ []) 0 t) (put_closed (v ∷ []) d 0 t (all_one d v h.is) (at_depth {n = d + 0 + 1} (omega arith) e).is))
@@ -99,36 +81,11 @@ put_two {d} {v} {w} {t} h k e = at_depth (omega arith) (shut (d + 0) (put (v ∷
 lowered_to : {t u : Term} (n d : ℕ) → lower n 0 t ≡ Some u → Shut (more n d) t → Shut d u
 lowered_to {t} {u} n d q e = at_depth (omega arith) (shut (d + 0) u (lower_closed n d 0 t u q (at_depth {n = d + 0 + n} (let m = more_plus n d in omega (arith, m)) e).is))
 
--- the recognisers
-eqb_same : (m n : ℕ) → eqb m n ≡ true → m ≡ n
-eqb_same m n e = grind arith
-
-cond_some : {A : Type 0} (b : Bool) {E x : A} → cond b (Some E) None ≡ Some x → (b ≡ true) × (E ≡ x)
-cond_some true e = (refl, some_same e)
-cond_some false e = none_some e
-
 part_shut : {d : ℕ} (u : Unary) (t : Term) {x : Term} → r.part u t ≡ Some x → Shut d t → Shut (more (binds u) d) x
-part_shut u (sort p s) q e = none_some q
-part_shut u (local p k) q e = none_some q
-part_shut u (entry p j) q e = none_some q
-part_shut {d} u (unary p w E) {x} q e =
-    let a = cond_some (eqb (code w) (code u)) q in
-    let b = unary_same w u (eqb_same (code w) (code u) a.0) in
-    subst (λ y. Shut (more (binds u) d) y) a.1 (subst (λ f. Shut (more (binds f) d) E) b (one e))
-part_shut u (binary p b E F) q e = none_some q
-part_shut u (choice p E F G) q e = none_some q
+part_shut u t q e = grind arith
 
 parts_shut : {d : ℕ} (b : Binary) (t : Term) {x : Term × Term} → r.parts b t ≡ Some x → Shut d t → Shut d x.0 × Shut (more (binds_last b) d) x.1
-parts_shut b (sort p s) q e = none_some q
-parts_shut b (local p k) q e = none_some q
-parts_shut b (entry p j) q e = none_some q
-parts_shut b (unary p u E) q e = none_some q
-parts_shut {d} b (binary p w E F) {x} q e =
-    let a = cond_some (eqb (code_two w) (code_two b)) q in
-    let s = binary_same w b (eqb_same (code_two w) (code_two b) a.0) in
-    subst (λ (y : Term × Term). Shut d y.0 × Shut (more (binds_last b) d) y.1) a.1
-    (fst_of e, subst (λ f. Shut (more (binds_last f) d) F) s (snd_of e))
-parts_shut b (choice p E F G) q e = none_some q
+parts_shut b t q e = grind arith
 
 -- contexts and entries
 pub record In (Γ : List Bound) : Type 0 where
@@ -155,18 +112,18 @@ fixed [] h = tt
 fixed (b ∷ Γ) h = (subst (λ n. closed_value n b.value ≡ true) (sym (length_bindings Γ)) h.1, fixed Γ h.2)
 
 bound_at : (Γ : List Bound) (k : ℕ) {b : Bound} → Bounded Γ → slice_get Γ k ≡ Some b → (m : ℕ) × (m + (k + 1) ≡ length Γ) × Shut m b.type
-bound_at [] k h e = none_some e
-bound_at (c ∷ Γ) zero h e = (length Γ, omega arith, subst (λ (x : Bound). Shut (length Γ) x.type) (some_same e) (record { is = h.0 }))
+bound_at [] k h e = cc
+bound_at (c ∷ Γ) zero h e = (length Γ, omega arith, grind arith)
 bound_at (c ∷ Γ) (suc k) h e = let i = bound_at Γ k h.2 e in (i.0, omega (arith, i.1), i.2)
 
 fixed_at : (Δ : List (Option Term)) (k : ℕ) {v : Term} → Fixed Δ → slice_get Δ k ≡ Some (Some v) → (m : ℕ) × (m + (k + 1) ≡ length Δ) × Shut m v
-fixed_at [] k h e = none_some e
-fixed_at (c ∷ Δ) zero {v} h e = (length Δ, omega arith, record { is = subst (λ x. closed_value (length Δ) x ≡ true) (some_same e) h.0 })
+fixed_at [] k h e = cc
+fixed_at (c ∷ Δ) zero h e = (length Δ, omega arith, grind arith)
 fixed_at (c ∷ Δ) (suc k) h e = let i = fixed_at Δ k h.1 e in (i.0, omega (arith, i.1), i.2)
 
 sealed_at : (es : List Entry) (j : ℕ) {e : Entry} → Sealed es → slice_get es j ≡ Some e → Shut 0 e.type × (closed_value 0 e.value ≡ true)
-sealed_at [] j h q = none_some q
-sealed_at (c ∷ es) zero h q = subst (λ (x : Entry). Shut 0 x.type × (closed_value 0 x.value ≡ true)) (some_same q) (record { is = h.0 }, h.1)
+sealed_at [] j h q = cc
+sealed_at (c ∷ es) zero h q = grind arith
 sealed_at (c ∷ es) (suc j) h q = sealed_at es j h.2 q
 
 abbrev Scope : Judgement → Type 0
@@ -185,8 +142,7 @@ pub data Tame (d : ℕ) : Premises → Type 0 where
 
 module _ {d : ℕ} where
   opts : {A : Type 0} (m : Option A) (c : Premises) (f : A → Premises) → Tame d c → ((x : A) → m ≡ Some x → Tame d (f x)) → Tame d (on m c f)
-  opts None c f a b = a
-  opts (Some x) c f a b = b x refl
+  opts m c f a b = grind arith
 
   conds : (b : Bool) (c e : Premises) → Tame d c → Tame d e → Tame d (cond b c e)
   conds true c e a b = a
@@ -211,8 +167,8 @@ module _ {d : ℕ} where
     arms : {P E : Term} (f : Term → Premises) → Shut (length Γ) P → Shut (suc (length Γ)) E → ((u : Term) → Shut (length Γ) u → Tame d (f u)) → Tame d (r.arm Γ P E f)
     arms f p e h = pays (needs (cons g p, e) (λ R q. lowers 1 (length Γ) R f q h))
 
-by : {d : ℕ} {c e : Premises} → c ≡ e → Tame d c → Tame d e
-by {d} q h = subst (λ x. Tame d x) q h
+by : {d : ℕ} {c e : Premises} → ◌≡◌ {A = Option Premises} (Some c) (Some e) → Tame d c → Tame d e
+by q h = grind arith
 
 module _ (es : List Entry) (sealed : Sealed es) where
   module _ {Γ : List Bound} (g : In Γ) where
@@ -258,26 +214,26 @@ module _ (es : List Entry) (sealed : Sealed es) where
     has_match e f h = parted g Sum _ e (λ x p q. arms g _ p f (λ R a. arms g _ q h (λ S b. sames (ends a))))
 
     has_tame : (E : Term) {c : Premises} → Shut (length Γ) E → r.has_rule es Γ E ≡ Some c → Tame (length Γ) c
-    has_tame (sort p s) e q = by (some_same q) (asks (λ u. ends shut_sort))
-    has_tame (local p k) e q = by (some_same q) (has_local k)
-    has_tame (entry p j) e q = by (some_same q) (has_entry j)
-    has_tame (unary p Fun E) e q = none_some q
-    has_tame (unary p Fst E) e q = by (some_same q) (has_first (one e))
-    has_tame (unary p Snd E) e q = by (some_same q) (has_second (one e))
-    has_tame (unary p Inl E) e q = none_some q
-    has_tame (unary p Inr E) e q = none_some q
-    has_tame (binary p Pi E F) e q = by (some_same q) (has_former (fst_of e) (snd_of e))
-    has_tame (binary p Sigma E F) e q = by (some_same q) (has_former (fst_of e) (snd_of e))
-    has_tame (binary p Exists E F) e q = by (some_same q) (has_former (fst_of e) (snd_of e))
-    has_tame (binary p Typed E F) e q = by (some_same q) (has_typed (fst_of e) (snd_of e))
-    has_tame (binary p App E F) e q = by (some_same q) (has_app (fst_of e) (snd_of e))
-    has_tame (binary p Pair E F) e q = none_some q
-    has_tame (binary p Pack E F) e q = none_some q
-    has_tame (binary p Unpack E F) e q = by (some_same q) (has_unpack (fst_of e) (snd_of e))
-    has_tame (binary p Sum E F) e q = by (some_same q) (has_sum (fst_of e) (snd_of e))
-    has_tame (binary p Ascribe E F) e q = by (some_same q) (has_ascription p F (fst_of e) (snd_of e))
-    has_tame (binary p Let E F) e q = by (some_same q) (has_let (fst_of e) (snd_of e))
-    has_tame (choice p E F G) e q = let t = of_three e in by (some_same q) (has_match t.0 t.1 t.2)
+    has_tame (sort p s) e q = by q (asks (λ u. ends shut_sort))
+    has_tame (local p k) e q = by q (has_local k)
+    has_tame (entry p j) e q = by q (has_entry j)
+    has_tame (unary p Fun E) e q = cc
+    has_tame (unary p Fst E) e q = by q (has_first (one e))
+    has_tame (unary p Snd E) e q = by q (has_second (one e))
+    has_tame (unary p Inl E) e q = cc
+    has_tame (unary p Inr E) e q = cc
+    has_tame (binary p Pi E F) e q = by q (has_former (fst_of e) (snd_of e))
+    has_tame (binary p Sigma E F) e q = by q (has_former (fst_of e) (snd_of e))
+    has_tame (binary p Exists E F) e q = by q (has_former (fst_of e) (snd_of e))
+    has_tame (binary p Typed E F) e q = by q (has_typed (fst_of e) (snd_of e))
+    has_tame (binary p App E F) e q = by q (has_app (fst_of e) (snd_of e))
+    has_tame (binary p Pair E F) e q = cc
+    has_tame (binary p Pack E F) e q = cc
+    has_tame (binary p Unpack E F) e q = by q (has_unpack (fst_of e) (snd_of e))
+    has_tame (binary p Sum E F) e q = by q (has_sum (fst_of e) (snd_of e))
+    has_tame (binary p Ascribe E F) e q = by q (has_ascription p F (fst_of e) (snd_of e))
+    has_tame (binary p Let E F) e q = by q (has_let (fst_of e) (snd_of e))
+    has_tame (choice p E F G) e q = let t = of_three e in by q (has_match t.0 t.1 t.2)
 
     meets_equal : {E S : Term} → Shut (length Γ) E → Shut (length Γ) S → Tame (length Γ) (r.meets_equal Γ E S)
     meets_equal e s = needs (g, e) (λ Q q. sames (ends s))
@@ -408,8 +364,8 @@ module _ (es : List Entry) (sealed : Sealed es) where
   rule_tame : (j : Judgement) {c : Premises} → Scope j → r.rule es j ≡ Some c → Tame (depth j) c
   unfolding r.rule
   rule_tame (has Γ E) h q = has_tame h.0 E h.1 q
-  rule_tame (meets Γ E S) h q = by (some_same q) (meets_tame h.0 E S h.1 h.2)
-  rule_tame (gives p Δ E) h q = by (some_same q) (gives_tame h.0 p E h.1)
+  rule_tame (meets Γ E S) h q = by q (meets_tame h.0 E S h.1 h.2)
+  rule_tame (gives p Δ E) h q = by q (gives_tame h.0 p E h.1)
 
   module _ (S : System) where
     mutual
