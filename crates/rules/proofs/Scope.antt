@@ -32,7 +32,7 @@ more (suc k) d = suc (more k d)
 
 more_plus : (k d : ℕ) → more k d ≡ k + d
 more_plus zero d = omega arith
-more_plus (suc k) d = let i = more_plus k d in omega (arith, i)
+more_plus (suc k) d = grind (arith, more_plus k d)
 
 module _ {d p : ℕ} where
   shut_sort : {s : ℕ} → Shut d (sort p s)
@@ -95,10 +95,10 @@ pub record Fix (Δ : List (Option Term)) : Type 0 where
   pub is : Fixed Δ
 
 cons : {Γ : List Bound} {P : Term} → In Γ → Shut (length Γ) P → In (record { type = P; value = None } ∷ Γ)
-cons g p = record { is = (p.is, refl, g.is) }
+cons g p = grind arith
 
 cons_value : {Γ : List Bound} {P v : Term} → In Γ → Shut (length Γ) P → Shut (length Γ) v → In (record { type = P; value = Some v } ∷ Γ)
-cons_value g p v = record { is = (p.is, v.is, g.is) }
+cons_value g p v = grind arith
 
 push : {Δ : List (Option Term)} → Fix Δ → Fix (None ∷ Δ)
 push i = record { is = (refl, i.is) }
@@ -113,13 +113,13 @@ fixed (b ∷ Γ) h = (subst (λ n. closed_value n b.value ≡ true) (sym (length
 
 bound_at : (Γ : List Bound) (k : ℕ) {b : Bound} → Bounded Γ → slice_get Γ k ≡ Some b → (m : ℕ) × (m + (k + 1) ≡ length Γ) × Shut m b.type
 bound_at [] k h e = cc
-bound_at (c ∷ Γ) zero h e = (length Γ, omega arith, grind arith)
-bound_at (c ∷ Γ) (suc k) h e = let i = bound_at Γ k h.2 e in (i.0, omega (arith, i.1), i.2)
+bound_at (c ∷ Γ) zero h e = grind arith
+bound_at (c ∷ Γ) (suc k) h e = grind (arith, bound_at Γ k h.2 e)
 
 fixed_at : (Δ : List (Option Term)) (k : ℕ) {v : Term} → Fixed Δ → slice_get Δ k ≡ Some (Some v) → (m : ℕ) × (m + (k + 1) ≡ length Δ) × Shut m v
 fixed_at [] k h e = cc
-fixed_at (c ∷ Δ) zero h e = (length Δ, omega arith, grind arith)
-fixed_at (c ∷ Δ) (suc k) h e = let i = fixed_at Δ k h.1 e in (i.0, omega (arith, i.1), i.2)
+fixed_at (c ∷ Δ) zero h e = grind arith
+fixed_at (c ∷ Δ) (suc k) h e = grind (arith, fixed_at Δ k h.1 e)
 
 sealed_at : (es : List Entry) (j : ℕ) {e : Entry} → Sealed es → slice_get es j ≡ Some e → Shut 0 e.type × (closed_value 0 e.value ≡ true)
 sealed_at [] j h q = cc
@@ -380,9 +380,7 @@ module _ (es : List Entry) (sealed : Sealed es) where
       chain_shut (sames h) (equal e d) = chain_shut h d
 
 scope : (j : Judgement) → Scoped j → Scope j
-scope (has Γ E) h = (record { is = h.0 }, record { is = h.1 })
-scope (meets Γ E P) h = (record { is = h.0 }, record { is = h.1 }, record { is = h.2 })
-scope (gives p Δ E) h = (record { is = h.0 }, record { is = h.1 })
+scope j h = grind arith
 
 -- what is derived from sealed entries of a scoped judgement is closed
 pub derives_closed : (S : System) (es : List Entry) → Sealed es → (j : Judgement) (t : Term) (n : ℕ) → Scoped j → Derives S es j t n → closed (depth j) t ≡ true

@@ -26,9 +26,7 @@ module _ (S : System) (es : List Entry) where
 
     pub chain_unique : {c : Premises} {t u : Term} {v w : Option Term} {m n : ℕ} → Chain S es c t v m → Chain S es c u w n → (t ≡ u) × (v ≡ w) × (m ≡ n)
     chain_unique done done = (refl, refl, refl)
-    chain_unique (paid {m = a} d) (paid d') =
-        let r = chain_unique d d' in
-        (r.0, r.1, ap (λ k. a + k) r.2)
+    chain_unique (paid {m = a} d) (paid d') = grind (arith, chain_unique d d')
     chain_unique (told {k = k} e d) (told e' d') =
         chain_unique d (chain_at (cc) d')
     chain_unique (proved {k = k} p d) (proved p' d') =
@@ -61,7 +59,7 @@ module _ (S : System) (es : List Entry) where
     pub passes_less : {c : Premises} {t : Term} {v : Option Term} {m b : ℕ} → Chain S es c t v m → Passes S es c b → b < m
     passes_less done x = elim x [ ]
     passes_less (paid d) (paying h) = omega arith
-    passes_less (paid d) (pass_paid d') = let h = passes_less d d' in omega arith
+    passes_less (paid d) (pass_paid d') = grind (arith, passes_less d d')
     passes_less (told {k = k} e d) (pass_told e' d') = passes_less d (passes_at (cc) d')
     passes_less (proved p d) (within d') = let h = exceeds_less p d' in omega arith
     passes_less (proved {k = k} p d) (pass_proved p' d') =
@@ -80,9 +78,7 @@ module _ (S : System) (es : List Entry) where
 
     pub halts_unique : {w : Spot} {c : Premises} {r s : Refusal} {m n : ℕ} → Halts S es w c r m → Halts S es w c s n → (r ≡ s) × (m ≡ n)
     halts_unique here here = (refl, refl)
-    halts_unique (stop_paid {m = a} d) (stop_paid d') =
-        let x = halts_unique d d' in
-        (x.0, ap (λ k. a + k) x.1)
+    halts_unique (stop_paid {m = a} d) (stop_paid d') = grind (arith, halts_unique d d')
     halts_unique (stop_told {k = k} e d) (stop_told e' d') = halts_unique d (halts_at (cc) d')
     halts_unique (stop_told e d) (none e') = cc
     halts_unique (none e) (stop_told e' d) = cc
@@ -110,7 +106,7 @@ module _ (S : System) (es : List Entry) where
     pub halts_less : {w : Spot} {c : Premises} {r : Refusal} {m b : ℕ} → Halts S es w c r m → Passes S es c b → b < m
     halts_less here x = elim x [ ]
     halts_less (stop_paid d) (paying h) = omega arith
-    halts_less (stop_paid d) (pass_paid d') = let h = halts_less d d' in omega arith
+    halts_less (stop_paid d) (pass_paid d') = grind (arith, halts_less d d')
     halts_less (stop_told {k = k} e d) (pass_told e' d') = halts_less d (passes_at (cc) d')
     halts_less (none e) (pass_told e' d) = cc
     halts_less (stop_proved p d) (within d') = let h = exceeds_less p d' in omega arith
