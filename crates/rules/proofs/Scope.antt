@@ -109,7 +109,7 @@ length_bindings (b ∷ Γ) = ap suc (length_bindings Γ)
 
 fixed : (Γ : List Bound) → Bounded Γ → Fixed (bindings Γ)
 fixed [] h = tt
-fixed (b ∷ Γ) h = (subst (λ n. closed_value n b.value ≡ true) (sym (length_bindings Γ)) h.1, fixed Γ h.2)
+fixed (b ∷ Γ) h = grind (arith, fixed Γ h.2, length_bindings)
 
 bound_at : (Γ : List Bound) (k : ℕ) {b : Bound} → Bounded Γ → slice_get Γ k ≡ Some b → (m : ℕ) × (m + (k + 1) ≡ length Γ) × Shut m b.type
 bound_at [] k h e = cc
@@ -149,14 +149,14 @@ module _ {d : ℕ} where
   conds false c e a b = b
 
   lowers : (n m : ℕ) (t : Term) (f : Term → Premises) → Shut (more n m) t → ((u : Term) → Shut m u → Tame d (f u)) → Tame d (r.lowering n t f)
-  lowers n m t f h k = opts (lower n 0 t) _ _ stops (λ u q. pays (k u (lowered_to n m q h)))
+  lowers n m t f h k = grind (arith, opts, stops, pays, lowered_to)
 
   module _ {Γ : List Bound} (g : In Γ) where
     sorted : {E : Term} (f : ℕ → Premises) → Shut (length Γ) E → ((s : ℕ) → Tame d (f s)) → Tame d (r.has_a_sort Γ E f)
-    sorted f e h = needs (g, e) (λ S _. opts (r.as_sort S) _ f stops (λ s _. h s))
+    sorted f e h = grind (arith, needs, opts, stops)
 
     parted : {E : Term} (b : Binary) (f : Term × Term → Premises) → Shut (length Γ) E → ((x : Term × Term) → Shut (length Γ) x.0 → Shut (more (binds_last b) (length Γ)) x.1 → Tame d (f x)) → Tame d (r.has_parts Γ b E f)
-    parted b f e h = needs (g, e) (λ S s. opts (r.parts b S) _ f stops (λ x q. let y = parts_shut b S q s in h x y.0 y.1))
+    parted b f e h = grind (arith, needs, opts, stops, parts_shut)
 
     forms : {p : ℕ} {E : Term} {k : Term → Premises} → Shut (length Γ) E → ((u : Term) → Shut (length Γ) u → Tame d (k u)) → Tame d (premise (gives p (bindings Γ) E) k)
     forms e h = needs (record { is = fixed Γ g.is }, at_depth (sym (length_bindings Γ)) e) (λ u q. h u (at_depth (length_bindings Γ) q))
@@ -176,7 +176,7 @@ module _ (es : List Entry) (sealed : Sealed es) where
     has_local k = opts (slice_get Γ k) _ _ stops (λ b q. let i = bound_at Γ k g.is q in pays (ends (lifted (k + 1) (length Γ) i.1 i.2)))
 
     has_entry : (j : ℕ) → Tame (length Γ) (r.has_entry es j)
-    has_entry j = opts (slice_get es j) _ _ stops (λ e q. ends (wide (length Γ) (sealed_at es j sealed q).0))
+    has_entry j = grind (arith, opts, stops, ends, wide, sealed_at)
 
     has_join : {p s t : ℕ} → Tame (length Γ) (r.has_join p s t)
     has_join = asks (λ u. ends shut_sort)
@@ -185,7 +185,7 @@ module _ (es : List Entry) (sealed : Sealed es) where
     has_former a b = sorted g _ a (λ s. forms g a (λ P p. pays (sorted (cons g p) _ b (λ t. has_join))))
 
     has_sum : {p : ℕ} {A B : Term} → Shut (length Γ) A → Shut (length Γ) B → Tame (length Γ) (r.has_sum p Γ A B)
-    has_sum a b = sorted g _ a (λ s. sorted g _ b (λ t. has_join))
+    has_sum a b = grind (arith, sorted, has_join)
 
     has_typed : {p : ℕ} {T E : Term} → Shut (length Γ) T → Shut (suc (length Γ)) E → Tame (length Γ) (r.has_typed p Γ T E)
     has_typed t e = sorted g _ t (λ s. forms g t (λ P p. pays (needs (cons g p, e) (λ Q q. ends (two Pi p q)))))
@@ -194,10 +194,10 @@ module _ (es : List Entry) (sealed : Sealed es) where
     has_app e f = parted g Pi _ e (λ x p q. needs (g, f, p) (λ _ _. fills g f q (λ u h. ends h)))
 
     has_first : {E : Term} → Shut (length Γ) E → Tame (length Γ) (r.has_first Γ E)
-    has_first e = parted g Sigma _ e (λ x p q. ends p)
+    has_first e = grind (arith, parted, ends)
 
     has_second : {p : ℕ} {E : Term} → Shut (length Γ) E → Tame (length Γ) (r.has_second p Γ E)
-    has_second e = parted g Sigma _ e (λ x p q. fills g (up Fst e) q (λ u h. ends h))
+    has_second e = grind (arith, parted, fills, up, ends)
 
     has_unpack : {E F : Term} → Shut (length Γ) E → Shut (suc (suc (length Γ))) F → Tame (length Γ) (r.has_unpack Γ E F)
     has_unpack e f = parted g Exists _ e (λ x p q. pays (pays (needs (cons (cons g p) q, f) (λ R h. lowers 2 (length Γ) R _ h (λ u k. ends k)))))
@@ -233,13 +233,13 @@ module _ (es : List Entry) (sealed : Sealed es) where
     has_tame (binary p Sum E F) e q = by q (has_sum (fst_of e) (snd_of e))
     has_tame (binary p Ascribe E F) e q = by q (has_ascription p F (fst_of e) (snd_of e))
     has_tame (binary p Let E F) e q = by q (has_let (fst_of e) (snd_of e))
-    has_tame (choice p E F G) e q = let t = of_three e in by q (has_match t.0 t.1 t.2)
+    has_tame (choice p E F G) e q = grind (arith, of_three, by, has_match)
 
     meets_equal : {E S : Term} → Shut (length Γ) E → Shut (length Γ) S → Tame (length Γ) (r.meets_equal Γ E S)
     meets_equal e s = needs (g, e) (λ Q q. sames (ends s))
 
     meets_fun : {E : Term} (S : Term) → Shut (suc (length Γ)) E → Shut (length Γ) S → Tame (length Γ) (r.meets_fun Γ E S)
-    meets_fun S e s = opts (r.parts Pi S) _ _ stops (λ x q. let y = parts_shut Pi S q s in pays (needs (cons g y.0, e, y.1) (λ _ _. ends s)))
+    meets_fun S e s = grind (arith, opts, stops, parts_shut, pays, needs, cons, ends)
 
     meets_pair : {E F : Term} (p : ℕ) (b : Binary) (S : Term) → binds_last b ≡ 1 → Shut (length Γ) E → Shut (length Γ) F → Shut (length Γ) S → Tame (length Γ) (r.meets_pair b p Γ E F S)
     meets_pair p b S n e f s =
@@ -248,10 +248,10 @@ module _ (es : List Entry) (sealed : Sealed es) where
         needs (g, e, y.0) (λ _ _. fills g e (at_depth (ap (λ k. more k (length Γ)) n) y.1) (λ R h. needs (g, f, h) (λ _ _. ends s))))
 
     meets_left : {E : Term} (S : Term) → Shut (length Γ) E → Shut (length Γ) S → Tame (length Γ) (r.meets_left Γ E S)
-    meets_left S e s = opts (r.parts Sum S) _ _ stops (λ x q. needs (g, e, (parts_shut Sum S q s).0) (λ _ _. ends s))
+    meets_left S e s = grind (arith, opts, stops, needs, parts_shut, ends)
 
     meets_right : {E : Term} (S : Term) → Shut (length Γ) E → Shut (length Γ) S → Tame (length Γ) (r.meets_right Γ E S)
-    meets_right S e s = opts (r.parts Sum S) _ _ stops (λ x q. needs (g, e, (parts_shut Sum S q s).1) (λ _ _. ends s))
+    meets_right S e s = grind (arith, opts, stops, needs, parts_shut, ends)
 
     meets_tame : (E S : Term) → Shut (length Γ) E → Shut (length Γ) S → Tame (length Γ) (r.meets_rule Γ E S)
     meets_tame (sort p s) S e h = meets_equal e h
@@ -267,8 +267,8 @@ module _ (es : List Entry) (sealed : Sealed es) where
     meets_tame (binary p Exists E F) S e h = meets_equal e h
     meets_tame (binary p Typed E F) S e h = meets_equal e h
     meets_tame (binary p App E F) S e h = meets_equal e h
-    meets_tame (binary p Pair E F) S e h = meets_pair p Sigma S refl (fst_of e) (snd_of e) h
-    meets_tame (binary p Pack E F) S e h = meets_pair p Exists S refl (fst_of e) (snd_of e) h
+    meets_tame (binary p Pair E F) S e h = grind (arith, meets_pair, fst_of, snd_of)
+    meets_tame (binary p Pack E F) S e h = grind (arith, meets_pair, fst_of, snd_of)
     meets_tame (binary p Unpack E F) S e h = meets_equal e h
     meets_tame (binary p Sum E F) S e h = meets_equal e h
     meets_tame (binary p Ascribe E F) S e h = meets_equal e h
@@ -290,13 +290,13 @@ module _ (es : List Entry) (sealed : Sealed es) where
         opts (slice_get es j) _ _ stops (λ a q. opts a.value _ _ (ends e) (λ v h. ends (value_shut a.value (sealed_at es j sealed q).1 h)))
 
     gives_fun : {p : ℕ} {E : Term} → Shut (suc (length Δ)) E → Tame (length Δ) (r.gives_fun p Δ E)
-    gives_fun e = pays (needs (push i, e) (λ v h. ends (up Fun h)))
+    gives_fun e = grind (arith, pays, needs, push, ends, up)
 
     gives_under : {p : ℕ} {A B : Term} (b : Binary) → binds_last b ≡ 1 → Shut (length Δ) A → Shut (suc (length Δ)) B → Tame (length Δ) (r.gives_under p Δ b A B)
-    gives_under b n e f = needs (i, e) (λ P h. pays (needs (push i, f) (λ Q k. ends (two b h (at_depth (ap (λ m. more m (length Δ)) (sym n)) k)))))
+    gives_under b n e f = grind (arith, needs, pays, push, ends, two, at_depth)
 
     gives_beside : {p : ℕ} {E F : Term} (b : Binary) → binds_last b ≡ 0 → Shut (length Δ) E → Shut (length Δ) F → Tame (length Δ) (r.gives_beside p Δ b E F)
-    gives_beside b n e f = needs (i, e) (λ v h. needs (i, f) (λ w k. ends (two b h (at_depth (ap (λ m. more m (length Δ)) (sym n)) k))))
+    gives_beside b n e f = grind (arith, needs, ends, two, at_depth)
 
     fill_one : {p : ℕ} {v E : Term} → Shut (length Δ) v → Shut (suc (length Δ)) E → Tame (length Δ) (r.gives_filled p Δ (v ∷ []) E)
     fill_one v e = pays (needs (i, put_one v e) (λ u h. ends h))
@@ -305,30 +305,25 @@ module _ (es : List Entry) (sealed : Sealed es) where
     fill_two v w e = pays (needs (i, put_two v w e) (λ u h. ends h))
 
     kept : {c : Premises} (t : Term) → Tame (length Δ) c → Tame (length Δ) (r.kept es Δ t c)
-    kept t h = conds (r.neutral es Δ t) _ _ h stops
+    kept t h = grind (arith, conds, stops)
 
     gives_app : {p : ℕ} {E F : Term} → Shut (length Δ) E → Shut (length Δ) F → Tame (length Δ) (r.gives_app es p Δ E F)
-    gives_app e f =
-        needs (i, e) (λ h a. needs (i, f) (λ v b.
-        opts (r.part Fun h) _ _ (kept h (ends (two App a b))) (λ x q. fill_one b (part_shut Fun h q a))))
+    gives_app e f = grind (arith, needs, opts, kept, ends, two, fill_one, part_shut)
 
     gives_let : {p : ℕ} {E F : Term} → Shut (length Δ) E → Shut (suc (length Δ)) F → Tame (length Δ) (r.gives_let p Δ E F)
     gives_let e f = needs (i, e) (λ v h. fill_one h f)
 
     gives_first : {p : ℕ} {E : Term} → Shut (length Δ) E → Tame (length Δ) (r.gives_first es p Δ E)
-    gives_first e = needs (i, e) (λ v h. opts (r.parts Pair v) _ _ (kept v (ends (up Fst h))) (λ x q. ends (parts_shut Pair v q h).0))
+    gives_first e = grind (arith, needs, opts, kept, ends, up, parts_shut)
 
     gives_second : {p : ℕ} {E : Term} → Shut (length Δ) E → Tame (length Δ) (r.gives_second es p Δ E)
-    gives_second e = needs (i, e) (λ v h. opts (r.parts Pair v) _ _ (kept v (ends (up Snd h))) (λ x q. ends (parts_shut Pair v q h).1))
+    gives_second e = grind (arith, needs, opts, kept, ends, up, parts_shut)
 
     gives_wrap : {p : ℕ} {E : Term} (u : Unary) → binds u ≡ 0 → Shut (length Δ) E → Tame (length Δ) (r.gives_wrap p Δ u E)
-    gives_wrap u n e = needs (i, e) (λ v h. ends (up u (at_depth (ap (λ m. more m (length Δ)) (sym n)) h)))
+    gives_wrap u n e = grind (arith, needs, ends, up, at_depth)
 
     gives_unpack : {p : ℕ} {E F : Term} → Shut (length Δ) E → Shut (suc (suc (length Δ))) F → Tame (length Δ) (r.gives_unpack es p Δ E F)
-    gives_unpack e f =
-        needs (i, e) (λ v h.
-        opts (r.parts Pack v) _ _ (kept v (pays (pays (needs (push (push i), f) (λ w k. ends (two Unpack h k))))))
-        (λ x q. let y = parts_shut Pack v q h in fill_two y.1 y.0 f))
+    gives_unpack e f = grind (arith, needs, opts, kept, pays, push, ends, two, parts_shut, fill_two)
 
     gives_match : {p : ℕ} {E F G : Term} → Shut (length Δ) E → Shut (suc (length Δ)) F → Shut (suc (length Δ)) G → Tame (length Δ) (r.gives_match es p Δ E F G)
     gives_match e f g =
@@ -359,7 +354,7 @@ module _ (es : List Entry) (sealed : Sealed es) where
     gives_tame w (binary p Sum E F) e = gives_beside Sum refl (fst_of e) (snd_of e)
     gives_tame w (binary p Ascribe E F) e = needs (i, fst_of e) (λ u h. ends h)
     gives_tame w (binary p Let E F) e = gives_let (fst_of e) (snd_of e)
-    gives_tame w (choice p E F G) e = let t = of_three e in gives_match t.0 t.1 t.2
+    gives_tame w (choice p E F G) e = grind (arith, of_three, gives_match)
 
   rule_tame : (j : Judgement) {c : Premises} → Scope j → r.rule es j ≡ Some c → Tame (depth j) c
   unfolding r.rule

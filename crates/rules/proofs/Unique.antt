@@ -109,7 +109,7 @@ module _ (S : System) (es : List Entry) where
     halts_less (stop_paid d) (pass_paid d') = grind (arith, halts_less d d')
     halts_less (stop_told {k = k} e d) (pass_told e' d') = halts_less d (passes_at (cc) d')
     halts_less (none e) (pass_told e' d) = cc
-    halts_less (stop_proved p d) (within d') = let h = exceeds_less p d' in omega arith
+    halts_less (stop_proved p d) (within d') = grind (arith, exceeds_less)
     halts_less (stop_proved {k = k} p d) (pass_proved p' d') =
         let a = derives_unique p' p in
         let h = halts_less d (passes_at (ap k a.0) d') in omega (arith, a.1)
