@@ -1,5 +1,5 @@
 -- What is derived of terms whose locals have their binders has no other locals.
-use Rattle.std.proofs.Common.{◌≡◌, ℕ, zero, suc, ◌+◌, Bool, true, false, cond, List, [], ◌∷◌, length, Some, None, Option, sym, refl, ap, ◌∙◌, subst, arith}
+use Rattle.std.proofs.Common.{◌≡◌, ℕ, zero, suc, ◌+◌, Bool, true, false, cond, List, [], ◌∷◌, length, Some, None, Option, sym, refl, ap, subst, arith}
 use Rattle.std.specs.List.{slice_get}
 use Rattle.term.specs.declared.node.Unary.{Unary}
 use Rattle.term.specs.declared.node.Unary.TheVariants.{Fun, Fst, Snd, Inl, Inr}
@@ -170,16 +170,19 @@ module _ {d : ℕ} where
 by : {d : ℕ} {c e : Premises} → ◌≡◌ {A = Option Premises} (Some c) (Some e) → Tame d c → Tame d e
 by q h = grind arith
 
+-- what settles the premises of a rule
+ruleset tame = (ends, stops, pays, asks, needs, sames, opts, conds, lowers, sorted, parted, forms, fills, arms, part_shut, parts_shut, lifted, wide, put_one, put_two, cons, cons_value, push, shut_sort, up, one, fst_of, snd_of, two, three, of_three, at_depth, bound_at, fixed_at, sealed_at, by)
+
 module _ (es : List Entry) (sealed : Sealed es) where
   module _ {Γ : List Bound} (g : In Γ) where
     has_local : (k : ℕ) → Tame (length Γ) (r.has_local Γ k)
-    has_local k = opts (slice_get Γ k) _ _ stops (λ b q. let i = bound_at Γ k g.is q in pays (ends (lifted (k + 1) (length Γ) i.1 i.2)))
+    has_local k = grind (arith, tame)
 
     has_entry : (j : ℕ) → Tame (length Γ) (r.has_entry es j)
-    has_entry j = grind (arith, opts, stops, ends, wide, sealed_at)
+    has_entry j = grind (arith, tame)
 
     has_join : {p s t : ℕ} → Tame (length Γ) (r.has_join p s t)
-    has_join = asks (λ u. ends shut_sort)
+    has_join = grind (arith, tame)
 
     has_former : {p : ℕ} {A B : Term} → Shut (length Γ) A → Shut (suc (length Γ)) B → Tame (length Γ) (r.has_former p Γ A B)
     has_former a b = sorted g _ a (λ s. forms g a (λ P p. pays (sorted (cons g p) _ b (λ t. has_join))))
@@ -194,7 +197,7 @@ module _ (es : List Entry) (sealed : Sealed es) where
     has_app e f = parted g Pi _ e (λ x p q. needs (g, f, p) (λ _ _. fills g f q (λ u h. ends h)))
 
     has_first : {E : Term} → Shut (length Γ) E → Tame (length Γ) (r.has_first Γ E)
-    has_first e = grind (arith, parted, ends)
+    has_first e = grind (arith, tame)
 
     has_second : {p : ℕ} {E : Term} → Shut (length Γ) E → Tame (length Γ) (r.has_second p Γ E)
     has_second e = grind (arith, parted, fills, up, ends)
@@ -236,10 +239,10 @@ module _ (es : List Entry) (sealed : Sealed es) where
     has_tame (choice p E F G) e q = grind (arith, of_three, by, has_match)
 
     meets_equal : {E S : Term} → Shut (length Γ) E → Shut (length Γ) S → Tame (length Γ) (r.meets_equal Γ E S)
-    meets_equal e s = needs (g, e) (λ Q q. sames (ends s))
+    meets_equal e f = grind (arith, tame)
 
     meets_fun : {E : Term} (S : Term) → Shut (suc (length Γ)) E → Shut (length Γ) S → Tame (length Γ) (r.meets_fun Γ E S)
-    meets_fun S e s = grind (arith, opts, stops, parts_shut, pays, needs, cons, ends)
+    meets_fun S e f = grind (arith, tame)
 
     meets_pair : {E F : Term} (p : ℕ) (b : Binary) (S : Term) → binds_last b ≡ 1 → Shut (length Γ) E → Shut (length Γ) F → Shut (length Γ) S → Tame (length Γ) (r.meets_pair b p Γ E F S)
     meets_pair p b S n e f s =
@@ -248,10 +251,10 @@ module _ (es : List Entry) (sealed : Sealed es) where
         needs (g, e, y.0) (λ _ _. fills g e (at_depth (ap (λ k. more k (length Γ)) n) y.1) (λ R h. needs (g, f, h) (λ _ _. ends s))))
 
     meets_left : {E : Term} (S : Term) → Shut (length Γ) E → Shut (length Γ) S → Tame (length Γ) (r.meets_left Γ E S)
-    meets_left S e s = grind (arith, opts, stops, needs, parts_shut, ends)
+    meets_left S e f = grind (arith, tame)
 
     meets_right : {E : Term} (S : Term) → Shut (length Γ) E → Shut (length Γ) S → Tame (length Γ) (r.meets_right Γ E S)
-    meets_right S e s = grind (arith, opts, stops, needs, parts_shut, ends)
+    meets_right S e f = grind (arith, tame)
 
     meets_tame : (E S : Term) → Shut (length Γ) E → Shut (length Γ) S → Tame (length Γ) (r.meets_rule Γ E S)
     meets_tame (sort p s) S e h = meets_equal e h
@@ -277,50 +280,47 @@ module _ (es : List Entry) (sealed : Sealed es) where
 
   module _ {Δ : List (Option Term)} (i : Fix Δ) where
     gives_local : {E : Term} (k : ℕ) → Shut (length Δ) E → Tame (length Δ) (r.gives_local Δ k E)
-    gives_local k e =
-        opts (slice_get Δ k) _ _ stops (λ b q. opts b _ _ (ends e) (λ v h.
-        let m = fixed_at Δ k i.is (q ∙ ap Some h) in
-        pays (ends (lifted (k + 1) (length Δ) m.1 m.2))))
+    gives_local k e = grind (arith, tame)
 
     value_shut : (v : Option Term) {x : Term} → closed_value 0 v ≡ true → v ≡ Some x → Shut (length Δ) x
-    value_shut v h q = wide (length Δ) (record { is = subst (λ y. closed_value 0 y ≡ true) q h })
+    value_shut v e f = grind (arith, tame)
 
     gives_entry : {E : Term} (j : ℕ) → Shut (length Δ) E → Tame (length Δ) (r.gives_entry es j E)
     gives_entry j e =
         opts (slice_get es j) _ _ stops (λ a q. opts a.value _ _ (ends e) (λ v h. ends (value_shut a.value (sealed_at es j sealed q).1 h)))
 
     gives_fun : {p : ℕ} {E : Term} → Shut (suc (length Δ)) E → Tame (length Δ) (r.gives_fun p Δ E)
-    gives_fun e = grind (arith, pays, needs, push, ends, up)
+    gives_fun e = grind (arith, tame)
 
     gives_under : {p : ℕ} {A B : Term} (b : Binary) → binds_last b ≡ 1 → Shut (length Δ) A → Shut (suc (length Δ)) B → Tame (length Δ) (r.gives_under p Δ b A B)
-    gives_under b n e f = grind (arith, needs, pays, push, ends, two, at_depth)
+    gives_under b e f h = grind (arith, tame)
 
     gives_beside : {p : ℕ} {E F : Term} (b : Binary) → binds_last b ≡ 0 → Shut (length Δ) E → Shut (length Δ) F → Tame (length Δ) (r.gives_beside p Δ b E F)
-    gives_beside b n e f = grind (arith, needs, ends, two, at_depth)
+    gives_beside b e f h = grind (arith, tame)
 
     fill_one : {p : ℕ} {v E : Term} → Shut (length Δ) v → Shut (suc (length Δ)) E → Tame (length Δ) (r.gives_filled p Δ (v ∷ []) E)
-    fill_one v e = pays (needs (i, put_one v e) (λ u h. ends h))
+    fill_one e f = grind (arith, tame)
 
     fill_two : {p : ℕ} {v w E : Term} → Shut (length Δ) v → Shut (length Δ) w → Shut (suc (suc (length Δ))) E → Tame (length Δ) (r.gives_filled p Δ (v ∷ (w ∷ [])) E)
-    fill_two v w e = pays (needs (i, put_two v w e) (λ u h. ends h))
+    fill_two e f h = grind (arith, tame)
 
     kept : {c : Premises} (t : Term) → Tame (length Δ) c → Tame (length Δ) (r.kept es Δ t c)
-    kept t h = grind (arith, conds, stops)
+    kept t e = grind (arith, tame)
 
     gives_app : {p : ℕ} {E F : Term} → Shut (length Δ) E → Shut (length Δ) F → Tame (length Δ) (r.gives_app es p Δ E F)
     gives_app e f = grind (arith, needs, opts, kept, ends, two, fill_one, part_shut)
 
     gives_let : {p : ℕ} {E F : Term} → Shut (length Δ) E → Shut (suc (length Δ)) F → Tame (length Δ) (r.gives_let p Δ E F)
-    gives_let e f = needs (i, e) (λ v h. fill_one h f)
+    gives_let e f = grind (arith, tame)
 
     gives_first : {p : ℕ} {E : Term} → Shut (length Δ) E → Tame (length Δ) (r.gives_first es p Δ E)
-    gives_first e = grind (arith, needs, opts, kept, ends, up, parts_shut)
+    gives_first e = grind (arith, tame)
 
     gives_second : {p : ℕ} {E : Term} → Shut (length Δ) E → Tame (length Δ) (r.gives_second es p Δ E)
-    gives_second e = grind (arith, needs, opts, kept, ends, up, parts_shut)
+    gives_second e = grind (arith, tame)
 
     gives_wrap : {p : ℕ} {E : Term} (u : Unary) → binds u ≡ 0 → Shut (length Δ) E → Tame (length Δ) (r.gives_wrap p Δ u E)
-    gives_wrap u n e = grind (arith, needs, ends, up, at_depth)
+    gives_wrap u e f = grind (arith, tame)
 
     gives_unpack : {p : ℕ} {E F : Term} → Shut (length Δ) E → Shut (suc (suc (length Δ))) F → Tame (length Δ) (r.gives_unpack es p Δ E F)
     gives_unpack e f = grind (arith, needs, opts, kept, pays, push, ends, two, parts_shut, fill_two)
