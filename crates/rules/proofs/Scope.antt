@@ -2,9 +2,9 @@
 use Rattle.std.proofs.Common.{◌≡◌, ℕ, zero, suc, ◌+◌, Bool, true, false, cond, List, [], ◌∷◌, length, Some, None, Option, sym, refl, ap, subst, arith}
 use Rattle.std.specs.List.{slice_get}
 use Rattle.term.specs.declared.node.Unary.{Unary}
-use Rattle.term.specs.declared.node.Unary.TheVariants.{Fun, Fst, Snd, Inl, Inr}
+use Rattle.term.specs.declared.node.Unary.TheVariants.{Inl, Inr}
 use Rattle.term.specs.declared.node.Binary.{Binary}
-use Rattle.term.specs.declared.node.Binary.TheVariants.{Pi, Sigma, Exists, Typed, App, Pair, Pack, Unpack, Sum, Ascribe, Let}
+use Rattle.term.specs.declared.node.Binary.TheVariants.{Pi, Exists, Sum}
 use Rattle.term.specs.Forms.{binds, binds_last}
 use Rattle.term.specs.Term.{Term, sort, local, entry, unary, binary, choice, closed, all_closed, lift, lower, put}
 use Rattle.term.specs.Cells.{Bound, bindings}
@@ -175,12 +175,6 @@ ruleset tame = (ends, stops, pays, asks, needs, sames, opts, conds, lowers, sort
 
 module _ (es : List Entry) (sealed : Sealed es) where
   module _ {Γ : List Bound} (g : In Γ) where
-    has_local : (k : ℕ) → Tame (length Γ) (r.has_local Γ k)
-    has_local k = grind (arith, tame)
-
-    has_entry : (j : ℕ) → Tame (length Γ) (r.has_entry es j)
-    has_entry j = grind (arith, tame)
-
     has_join : {p s t : ℕ} → Tame (length Γ) (r.has_join p s t)
     has_join = grind (arith, tame)
 
@@ -217,32 +211,12 @@ module _ (es : List Entry) (sealed : Sealed es) where
     has_match e f h = parted g Sum _ e (λ x p q. arms g _ p f (λ R a. arms g _ q h (λ S b. sames (ends a))))
 
     has_tame : (E : Term) {c : Premises} → Shut (length Γ) E → r.has_rule es Γ E ≡ Some c → Tame (length Γ) c
-    has_tame (sort p s) e q = by q (asks (λ u. ends shut_sort))
-    has_tame (local p k) e q = by q (has_local k)
-    has_tame (entry p j) e q = by q (has_entry j)
-    has_tame (unary p Fun E) e q = cc
-    has_tame (unary p Fst E) e q = by q (has_first (one e))
-    has_tame (unary p Snd E) e q = by q (has_second (one e))
-    has_tame (unary p Inl E) e q = cc
-    has_tame (unary p Inr E) e q = cc
-    has_tame (binary p Pi E F) e q = by q (has_former (fst_of e) (snd_of e))
-    has_tame (binary p Sigma E F) e q = by q (has_former (fst_of e) (snd_of e))
-    has_tame (binary p Exists E F) e q = by q (has_former (fst_of e) (snd_of e))
-    has_tame (binary p Typed E F) e q = by q (has_typed (fst_of e) (snd_of e))
-    has_tame (binary p App E F) e q = by q (has_app (fst_of e) (snd_of e))
-    has_tame (binary p Pair E F) e q = cc
-    has_tame (binary p Pack E F) e q = cc
-    has_tame (binary p Unpack E F) e q = by q (has_unpack (fst_of e) (snd_of e))
-    has_tame (binary p Sum E F) e q = by q (has_sum (fst_of e) (snd_of e))
-    has_tame (binary p Ascribe E F) e q = by q (has_ascription p F (fst_of e) (snd_of e))
-    has_tame (binary p Let E F) e q = by q (has_let (fst_of e) (snd_of e))
-    has_tame (choice p E F G) e q = grind (arith, of_three, by, has_match)
-
-    meets_equal : {E S : Term} → Shut (length Γ) E → Shut (length Γ) S → Tame (length Γ) (r.meets_equal Γ E S)
-    meets_equal e f = grind (arith, tame)
-
-    meets_fun : {E : Term} (S : Term) → Shut (suc (length Γ)) E → Shut (length Γ) S → Tame (length Γ) (r.meets_fun Γ E S)
-    meets_fun S e f = grind (arith, tame)
+    has_tame (sort p s) e q = grind (arith, tame)
+    has_tame (local p k) e q = grind (arith, tame)
+    has_tame (entry p j) e q = grind (arith, tame)
+    has_tame (unary p u E) e q = grind (arith, by, one, has_first, has_second)
+    has_tame (binary p b E F) e q = grind (arith, by, fst_of, snd_of, has_former, has_typed, has_app, has_unpack, has_sum, has_ascription, has_let)
+    has_tame (choice p E F G) e q = grind (arith, by, of_three, has_match)
 
     meets_pair : {E F : Term} (p : ℕ) (b : Binary) (S : Term) → binds_last b ≡ 1 → Shut (length Γ) E → Shut (length Γ) F → Shut (length Γ) S → Tame (length Γ) (r.meets_pair b p Γ E F S)
     meets_pair p b S n e f s =
@@ -250,38 +224,15 @@ module _ (es : List Entry) (sealed : Sealed es) where
         let y = parts_shut b S q s in
         needs (g, e, y.0) (λ _ _. fills g e (at_depth (ap (λ k. more k (length Γ)) n) y.1) (λ R h. needs (g, f, h) (λ _ _. ends s))))
 
-    meets_left : {E : Term} (S : Term) → Shut (length Γ) E → Shut (length Γ) S → Tame (length Γ) (r.meets_left Γ E S)
-    meets_left S e f = grind (arith, tame)
-
-    meets_right : {E : Term} (S : Term) → Shut (length Γ) E → Shut (length Γ) S → Tame (length Γ) (r.meets_right Γ E S)
-    meets_right S e f = grind (arith, tame)
-
     meets_tame : (E S : Term) → Shut (length Γ) E → Shut (length Γ) S → Tame (length Γ) (r.meets_rule Γ E S)
-    meets_tame (sort p s) S e h = meets_equal e h
-    meets_tame (local p k) S e h = meets_equal e h
-    meets_tame (entry p j) S e h = meets_equal e h
-    meets_tame (unary p Fun E) S e h = meets_fun S (one e) h
-    meets_tame (unary p Fst E) S e h = meets_equal e h
-    meets_tame (unary p Snd E) S e h = meets_equal e h
-    meets_tame (unary p Inl E) S e h = meets_left S (one e) h
-    meets_tame (unary p Inr E) S e h = meets_right S (one e) h
-    meets_tame (binary p Pi E F) S e h = meets_equal e h
-    meets_tame (binary p Sigma E F) S e h = meets_equal e h
-    meets_tame (binary p Exists E F) S e h = meets_equal e h
-    meets_tame (binary p Typed E F) S e h = meets_equal e h
-    meets_tame (binary p App E F) S e h = meets_equal e h
-    meets_tame (binary p Pair E F) S e h = grind (arith, meets_pair, fst_of, snd_of)
-    meets_tame (binary p Pack E F) S e h = grind (arith, meets_pair, fst_of, snd_of)
-    meets_tame (binary p Unpack E F) S e h = meets_equal e h
-    meets_tame (binary p Sum E F) S e h = meets_equal e h
-    meets_tame (binary p Ascribe E F) S e h = meets_equal e h
-    meets_tame (binary p Let E F) S e h = meets_equal e h
-    meets_tame (choice p E F G) S e h = meets_equal e h
+    meets_tame (sort p s) S e h = grind (arith, tame)
+    meets_tame (local p k) S e h = grind (arith, tame)
+    meets_tame (entry p j) S e h = grind (arith, tame)
+    meets_tame (unary p u E) S e h = grind (arith, tame)
+    meets_tame (binary p b E F) S e h = grind (arith, tame, meets_pair)
+    meets_tame (choice p E F G) S e h = grind (arith, tame)
 
   module _ {Δ : List (Option Term)} (i : Fix Δ) where
-    gives_local : {E : Term} (k : ℕ) → Shut (length Δ) E → Tame (length Δ) (r.gives_local Δ k E)
-    gives_local k e = grind (arith, tame)
-
     value_shut : (v : Option Term) {x : Term} → closed_value 0 v ≡ true → v ≡ Some x → Shut (length Δ) x
     value_shut v e f = grind (arith, tame)
 
@@ -335,25 +286,11 @@ module _ (es : List Entry) (sealed : Sealed es) where
         (λ x q. fill_one (part_shut Inl v q h) f))
 
     gives_tame : (w : ℕ) (E : Term) → Shut (length Δ) E → Tame (length Δ) (r.gives_rule es w Δ E)
-    gives_tame w (sort p s) e = ends e
-    gives_tame w (local p k) e = gives_local k e
-    gives_tame w (entry p j) e = gives_entry j e
-    gives_tame w (unary p Fun E) e = gives_fun (one e)
-    gives_tame w (unary p Fst E) e = gives_first (one e)
-    gives_tame w (unary p Snd E) e = gives_second (one e)
-    gives_tame w (unary p Inl E) e = gives_wrap Inl refl (one e)
-    gives_tame w (unary p Inr E) e = gives_wrap Inr refl (one e)
-    gives_tame w (binary p Pi E F) e = gives_under Pi refl (fst_of e) (snd_of e)
-    gives_tame w (binary p Sigma E F) e = gives_under Sigma refl (fst_of e) (snd_of e)
-    gives_tame w (binary p Exists E F) e = gives_under Exists refl (fst_of e) (snd_of e)
-    gives_tame w (binary p Typed E F) e = gives_fun (snd_of e)
-    gives_tame w (binary p App E F) e = gives_app (fst_of e) (snd_of e)
-    gives_tame w (binary p Pair E F) e = gives_beside Pair refl (fst_of e) (snd_of e)
-    gives_tame w (binary p Pack E F) e = gives_beside Pack refl (fst_of e) (snd_of e)
-    gives_tame w (binary p Unpack E F) e = gives_unpack (fst_of e) (snd_of e)
-    gives_tame w (binary p Sum E F) e = gives_beside Sum refl (fst_of e) (snd_of e)
-    gives_tame w (binary p Ascribe E F) e = needs (i, fst_of e) (λ u h. ends h)
-    gives_tame w (binary p Let E F) e = gives_let (fst_of e) (snd_of e)
+    gives_tame w (sort p s) e = grind (arith, tame)
+    gives_tame w (local p k) e = grind (arith, tame)
+    gives_tame w (entry p j) e = grind (arith, tame, gives_entry)
+    gives_tame w (unary p u E) e = grind (arith, one, gives_fun, gives_first, gives_second, gives_wrap)
+    gives_tame w (binary p b E F) e = grind (arith, ends, needs, fst_of, snd_of, gives_under, gives_beside, gives_fun, gives_app, gives_unpack, gives_let)
     gives_tame w (choice p E F G) e = grind (arith, of_three, gives_match)
 
   rule_tame : (j : Judgement) {c : Premises} → Scope j → r.rule es j ≡ Some c → Tame (depth j) c
