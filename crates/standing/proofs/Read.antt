@@ -10,7 +10,7 @@ use Rattle.script.specs.Names.{last_from}
 use Rattle.term.specs.Forms.{binds, binds_last}
 use Rattle.term.specs.Term.{Term, sort, local, entry, unary, binary, choice, closed}
 use Rattle.grammar.specs.Words.{Token, name, number, mark, first, no_token, Word}
-use Rattle.grammar.specs.Grammar.{Name, Sign, expr, sums, products, application, atom, arguments, find, find_entry, later, next_number, past, tree}
+use Rattle.grammar.specs.Grammar.{Name, Sign, expr, sums, products, application, atom, arguments, find, find_entry, past, tree}
 use Rattle.grammar.specs.Phrases.{Takes, took, Calls, called, Counts, counted, Phrase}
 use Rattle.grammar.specs.Phrases.Phrase.{a_function, a_typed_function, a_pi, a_forall, a_sigma, an_exists, a_let, a_typed_let, an_unpack, no_arrow, an_arrow, no_plus, a_sum, no_times, a_product}
 use Rattle.grammar.specs.Phrases.Phrase.{by_atom, by_fst, by_snd, by_inl, by_inr, no_more, one_more, a_local, an_entry, a_type, a_prop, a_kind, a_sort, a_group, an_ascription, a_pair, a_pack, a_match, a_turned_match}
@@ -24,10 +24,6 @@ use Rattle.grammar.proofs.Sentences.{read_sentences}
 abbrev Within : ℕ → Option ℕ → Type 0
 Within n None = Unit {0}
 Within n (Some k) = k < n
-
-later_within : (n : ℕ) (o : Option ℕ) → Within n o → Within (suc n) (later o)
-later_within n None h = tt
-later_within n (Some k) h = omega arith
 
 find_within : (x : Name) (sc : List Name) → Within (length sc) (find x sc)
 find_within x [] = tt
@@ -68,9 +64,6 @@ module _ (q : ℕ → Type 0) where
 
   calls : {x : Name} {a b : List Word} → Calls x a b → AllFine a → AllFine b
   calls {a = a} (called e) h = past_fine a h
-
-  next_fine : (n : ℕ) (a : List Word) → next_number a ≡ Some n → AllFine a → q n
-  next_fine n a e h = grind arith
 
   counts : {n : ℕ} {a b : List Word} → Counts n a b → AllFine a → q n × AllFine b
   counts {n} {a} (counted e) h = grind arith
