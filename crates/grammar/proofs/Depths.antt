@@ -1,9 +1,7 @@
 -- How deep a printable term may stand.
-use Rattle.std.proofs.Common.{◌≡◌, ℕ, suc, ◌+◌, ◌*◌, ◌^◌, ◌<◌, ◌≤◌, Bool, true, not, ◌||◌, arith}
-use Rattle.term.specs.declared.node.Unary.{Unary}
-use Rattle.term.specs.declared.node.Binary.{Binary}
+use Rattle.std.proofs.Common.{◌≡◌, ℕ, suc, ◌+◌, ◌*◌, ◌^◌, ◌<◌, ◌≤◌, true, arith}
 use Rattle.term.specs.Forms.{binds, binds_last}
-use Rattle.term.specs.Term.{Term, sort, local, entry, unary, binary, choice, cells, any_local, leaving, closed}
+use Rattle.term.specs.Term.{Term, sort, local, entry, unary, binary, choice, cells, closed}
 use Rattle.grammar.specs.Text.{Printable}
 
 pub under_none : (m d : ℕ) (t : Term) → Printable m (0 + d) t → Printable m d t
@@ -32,25 +30,12 @@ Bounded m (unary p u E) = Bounded m E
 Bounded m (binary p b E F) = Bounded m E × Bounded m F
 Bounded m (choice p E F G) = Bounded m E × Bounded m F × Bounded m G
 
-few : (u : Unary) → binds u ≤ 2
-few u = grind arith
-
-few_last : (b : Binary) → binds_last b ≤ 2
-few_last b = grind arith
-
-inside : (a b : Bool) → not (a || b) ≡ true → (not a ≡ true) × (not b ≡ true)
-inside a b e = grind arith
-
 -- a closed term of few cells is printable
 pub printable : (m d : ℕ) (t : Term) → d + 2 * cells t < 2 ^ 64 → closed d t ≡ true → Bounded m t → Printable m d t
 printable m d (sort p s) l c b = (omega arith, b)
 printable m d (local p k) l c b = grind arith
 printable m d (entry p j) l c b = (omega arith, b)
-printable m d (unary p u E) l c b = printable m (binds u + d) E (omega (arith, few u)) c b
-printable m d (binary p f E F) l c b =
-    let i = inside (any_local leaving d E) _ c in
-    (printable m d E (omega arith) i.0 b.0, printable m (binds_last f + d) F (omega (arith, few_last f)) i.1 b.1)
+printable m d (unary p u E) l c b = printable m (binds u + d) E (grind arith) c b
+printable m d (binary p f E F) l c b = (printable m d E (omega arith) (grind arith) b.0, printable m (binds_last f + d) F (grind arith) (grind arith) b.1)
 printable m d (choice p E F G) l c b =
-    let i = inside (any_local leaving d E) _ c in
-    let j = inside (any_local leaving (1 + d) F) _ i.1 in
-    (printable m d E (omega arith) i.0 b.0, printable m (1 + d) F (omega arith) j.0 b.1, printable m (1 + d) G (omega arith) j.1 b.2)
+    (printable m d E (omega arith) (grind arith) b.0, printable m (1 + d) F (omega arith) (grind arith) b.1, printable m (1 + d) G (omega arith) (grind arith) b.2)

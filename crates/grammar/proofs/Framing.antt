@@ -1,6 +1,6 @@
 -- Reading looks at no word past the next one: what is read stays read, and what is refused stays
 -- refused, whatever comes later.
-use Rattle.std.proofs.Common.{◌≡◌, ℕ, ◌<◌, Bool, false, cond, ◌⊎◌, List, [], ◌∷◌, ◌++◌, length, None, Option, sym, refl, ap, ◌∙◌, subst, inl, inr, append_assoc, arith}
+use Rattle.std.proofs.Common.{◌≡◌, ℕ, Bool, false, cond, ◌⊎◌, List, [], ◌∷◌, ◌++◌, None, Option, sym, refl, ap, ◌∙◌, subst, inl, inr, append_assoc, arith}
 use Rattle.script.specs.declared.token.Mark.{Mark}
 use Rattle.script.specs.declared.token.Mark.TheVariants.{Closes}
 use Rattle.term.specs.declared.node.Binary.TheVariants.{App}
@@ -27,9 +27,6 @@ like_first w a b = grind arith
 like_front : (u z v : List Word) → Like z v → Like (u ++ z) (u ++ v)
 like_front [] z v l = l
 like_front (w ∷ u) z v l = like_first w (u ++ z) (u ++ v)
-
-not_shorter : {x z : List Word} → x ≡ z → length z < length x → ⊥
-not_shorter e l = grind arith
 
 -- words that pass, since they do not go on with an expression
 abbrev pub Quiet : List Word → Type 0

@@ -25,9 +25,6 @@ find_binder (suc d) j h l =
       | inr n ↦ cond-false (bytes_eq (binder_name d) (binder_name j)) _ _ (same_false _ _ (binder_apart d j (omega arith) (omega arith) n)) ∙ ap later (find_binder d j (omega arith) (omega arith)) ∙ ap Some (omega arith)
     ]
 
-not_binder : (x : Name) (j : ℕ) → is_ascii_alphabetic (get_or x 0 0) ≡ true → binder_name j ≡ x → ⊥
-not_binder x j h e = grind arith
-
 pub find_none : (x : Name) (d : ℕ) → is_ascii_alphabetic (get_or x 0 0) ≡ true → find x (binder_names d) ≡ None
 find_none x zero h = refl
 find_none x (suc d) h = grind (arith, find_none x d h)

@@ -1,10 +1,8 @@
 -- The words of bytes, each name taken from the bytes themselves.
 use Rattle.std.proofs.Common.{◌≡◌, ℕ, zero, suc, pred, Bool, eqb, List, [], ◌∷◌, take, drop, Some, None, Option, refl, arith}
 use Rattle.script.specs.declared.token.Kind.{Kind}
-use Rattle.script.specs.Lexemes.{Lexeme}
-use Rattle.script.specs.Names.{bytes_at}
 use Rattle.script.specs.Tokens.{piece}
-use Rattle.script.specs.Parts.{parts, parts_from, line_start, with_lexeme, lexemes, lexemes_from}
+use Rattle.script.specs.Parts.{parts, parts_from, line_start, lexemes, lexemes_from}
 use Rattle.grammar.specs.Words.{Token, Word, as_token, words}
 
 abbrev pub put : Token → ℕ → Word
@@ -20,9 +18,6 @@ words_of k fresh [] at = []
 words_of zero fresh (b ∷ bs) at =
     with_word (piece fresh b bs).kind (take (piece fresh b bs).len (b ∷ bs)) at (words_of (pred (piece fresh b bs).len) (eqb b 10) bs (suc at))
 words_of (suc k) fresh (b ∷ bs) at = words_of k (eqb b 10) bs (suc at)
-
-with_same : (s : List ℕ) (o : Option Kind) (at n : ℕ) (ls : List Lexeme) → words s (with_lexeme o at n ls) ≡ with_word o (bytes_at s at n) at (words s ls)
-with_same s o at n ls = grind arith
 
 pub drop_more : (s : List ℕ) (at b : ℕ) (bs : List ℕ) → b ∷ bs ≡ drop at s → bs ≡ drop (suc at) s
 drop_more [] zero b bs e = cc

@@ -1,12 +1,12 @@
 -- What is derived of terms whose locals have their binders has no other locals.
-use Rattle.std.proofs.Common.{◌≡◌, ℕ, zero, suc, ◌+◌, Bool, true, false, cond, not, ◌&&◌, ◌||◌, eqb, List, [], ◌∷◌, length, Some, None, Option, sym, refl, ap, ◌∙◌, subst, arith}
+use Rattle.std.proofs.Common.{◌≡◌, ℕ, zero, suc, ◌+◌, Bool, true, false, cond, List, [], ◌∷◌, length, Some, None, Option, sym, refl, ap, subst, arith}
 use Rattle.std.specs.List.{slice_get}
 use Rattle.term.specs.declared.node.Unary.{Unary}
-use Rattle.term.specs.declared.node.Unary.TheVariants.{Fun, Fst, Snd, Inl, Inr}
+use Rattle.term.specs.declared.node.Unary.TheVariants.{Inl, Inr}
 use Rattle.term.specs.declared.node.Binary.{Binary}
-use Rattle.term.specs.declared.node.Binary.TheVariants.{Pi, Sigma, Exists, Typed, App, Pair, Pack, Unpack, Sum, Ascribe, Let}
-use Rattle.term.specs.Forms.{binds, binds_last, code, code_two}
-use Rattle.term.specs.Term.{Term, sort, local, entry, unary, binary, choice, any_local, leaving, closed, all_closed, lift, lower, put}
+use Rattle.term.specs.declared.node.Binary.TheVariants.{Pi, Exists, Sum}
+use Rattle.term.specs.Forms.{binds, binds_last}
+use Rattle.term.specs.Term.{Term, sort, local, entry, unary, binary, choice, closed, all_closed, lift, lower, put}
 use Rattle.term.specs.Cells.{Bound, bindings}
 use Rattle.term.proofs.Lifting.{lift_closed, closed_lift}
 use Rattle.term.proofs.Putting.{put_closed, lower_closed}
@@ -15,30 +15,15 @@ use Rattle.rules.specs.Rules as r
 use Rattle.rules.specs.declared.refusal.Reason.{Reason}
 use Rattle.rules.specs.Derivation.{System, Derives, rule_use, Chain, done, paid, told, proved, equal}
 use Rattle.rules.specs.Scope.{closed_value, Sealed, Bounded, Fixed, Scoped, depth}
-use Rattle.rules.proofs.Alike.{unary_same, binary_same}
-
-not_or : (a b : Bool) → not (a || b) ≡ true → (not a ≡ true) × (not b ≡ true)
-not_or true b e = absurd (let z : ◌≡◌ {A = ℕ} 0 1 = cc in omega arith)
-not_or false b e = (refl, e)
-
-both_not : (a b : Bool) → not a ≡ true → not b ≡ true → not (a || b) ≡ true
-both_not true b e h = absurd (let z : ◌≡◌ {A = ℕ} 0 1 = cc in omega arith)
-both_not false b e h = h
-
-none_some : {A B : Type 0} {x : A} → ◌≡◌ {A = Option A} None (Some x) → B
-none_some e = absurd (let z : ◌≡◌ {A = ℕ} 0 1 = cc in omega arith)
-
-some_same : {A : Type 0} {x y : A} → ◌≡◌ {A = Option A} (Some x) (Some y) → x ≡ y
-some_same e = cc
 
 pub record Shut (d : ℕ) (t : Term) : Type 0 where
   pub is : closed d t ≡ true
 
 shut : (d : ℕ) (t : Term) → closed d t ≡ true → Shut d t
-shut d t e = record { is = e }
+shut d t e = grind arith
 
 at_depth : {m n : ℕ} {t : Term} → m ≡ n → Shut m t → Shut n t
-at_depth {t = t} e h = subst (λ k. Shut k t) e h
+at_depth e h = grind arith
 
 -- k binders more, in a form that computes
 abbrev more : ℕ → ℕ → ℕ
@@ -47,35 +32,32 @@ more (suc k) d = suc (more k d)
 
 more_plus : (k d : ℕ) → more k d ≡ k + d
 more_plus zero d = omega arith
-more_plus (suc k) d = let i = more_plus k d in omega (arith, i)
+more_plus (suc k) d = grind (arith, more_plus k d)
 
 module _ {d p : ℕ} where
   shut_sort : {s : ℕ} → Shut d (sort p s)
   shut_sort = record { is = refl }
 
   up : (u : Unary) {E : Term} → Shut (more (binds u) d) E → Shut d (unary p u E)
-  up u {E} e = record { is = (at_depth {n = binds u + d} (more_plus (binds u) d) e).is }
+  up u e = grind (arith, more_plus)
 
   one : {u : Unary} {E : Term} → Shut d (unary p u E) → Shut (more (binds u) d) E
-  one {u} {E} e = at_depth (sym (more_plus (binds u) d)) (shut (binds u + d) E e.is)
+  one e = grind (arith, more_plus)
 
   fst_of : {b : Binary} {E F : Term} → Shut d (binary p b E F) → Shut d E
-  fst_of {b} {E} {F} e = record { is = (not_or (any_local leaving d E) (any_local leaving (binds_last b + d) F) e.is).0 }
+  fst_of e = grind arith
 
   snd_of : {b : Binary} {E F : Term} → Shut d (binary p b E F) → Shut (more (binds_last b) d) F
-  snd_of {b} {E} {F} e = at_depth (sym (more_plus (binds_last b) d)) (shut (binds_last b + d) F (not_or (any_local leaving d E) (any_local leaving (binds_last b + d) F) e.is).1)
+  snd_of e = grind (arith, more_plus)
 
   two : (b : Binary) {E F : Term} → Shut d E → Shut (more (binds_last b) d) F → Shut d (binary p b E F)
-  two b {E} {F} e f = record { is = both_not (any_local leaving d E) (any_local leaving (binds_last b + d) F) e.is (at_depth {n = binds_last b + d} (more_plus (binds_last b) d) f).is }
+  two b e f = grind (arith, more_plus)
 
   three : {E F G : Term} → Shut d E → Shut (suc d) F → Shut (suc d) G → Shut d (choice p E F G)
-  three {E} {F} {G} e f g = record { is = both_not (any_local leaving d E) (any_local leaving (1 + d) F || any_local leaving (1 + d) G) e.is (both_not (any_local leaving (1 + d) F) (any_local leaving (1 + d) G) (at_depth {n = 1 + d} (omega arith) f).is (at_depth {n = 1 + d} (omega arith) g).is) }
+  three e f g = grind arith
 
   of_three : {E F G : Term} → Shut d (choice p E F G) → Shut d E × Shut (suc d) F × Shut (suc d) G
-  of_three {E} {F} {G} e =
-      let a = not_or (any_local leaving d E) (any_local leaving (1 + d) F || any_local leaving (1 + d) G) e.is in
-      let b = not_or (any_local leaving (1 + d) F) (any_local leaving (1 + d) G) a.1 in
-      (record { is = a.0 }, at_depth (omega arith) (shut (1 + d) F b.0), at_depth (omega arith) (shut (1 + d) G b.1))
+  of_three e = grind arith
 
 -- what lifting, putting in and lowering leave
 lifted : {m : ℕ} {t : Term} (n d : ℕ) → m + n ≡ d → Shut m t → Shut d (lift n 0 t)
@@ -85,10 +67,10 @@ wide : {t : Term} (n : ℕ) → Shut 0 t → Shut n t
 wide {t} n h = subst (λ u. Shut n u) (closed_lift n 0 t h.is) (lifted n n (omega arith) h)
 
 all_one : (d : ℕ) (v : Term) → closed d v ≡ true → all_closed d (v ∷ []) ≡ true
-all_one d v h = ap (λ (b : Bool). b && true) h
+all_one d v h = grind arith
 
 all_two : (d : ℕ) (v w : Term) → closed d v ≡ true → closed d w ≡ true → all_closed d (v ∷ (w ∷ [])) ≡ true
-all_two d v w h k = ap (λ (b : Bool). b && (closed d w && true)) h ∙ ap (λ (b : Bool). b && true) k
+all_two d v w h k = grind arith
 
 put_one : {d : ℕ} {v t : Term} → Shut d v → Shut (suc d) t → Shut d (put (v ∷ []) 0 t)
 put_one {d} {v} {t} h e = at_depth (omega arith) (shut (d + 0) (put (v ∷ []) 0 t) (put_closed (v ∷ []) d 0 t (all_one d v h.is) (at_depth {n = d + 0 + 1} (omega arith) e).is))
@@ -99,36 +81,11 @@ put_two {d} {v} {w} {t} h k e = at_depth (omega arith) (shut (d + 0) (put (v ∷
 lowered_to : {t u : Term} (n d : ℕ) → lower n 0 t ≡ Some u → Shut (more n d) t → Shut d u
 lowered_to {t} {u} n d q e = at_depth (omega arith) (shut (d + 0) u (lower_closed n d 0 t u q (at_depth {n = d + 0 + n} (let m = more_plus n d in omega (arith, m)) e).is))
 
--- the recognisers
-eqb_same : (m n : ℕ) → eqb m n ≡ true → m ≡ n
-eqb_same m n e = grind arith
-
-cond_some : {A : Type 0} (b : Bool) {E x : A} → cond b (Some E) None ≡ Some x → (b ≡ true) × (E ≡ x)
-cond_some true e = (refl, some_same e)
-cond_some false e = none_some e
-
 part_shut : {d : ℕ} (u : Unary) (t : Term) {x : Term} → r.part u t ≡ Some x → Shut d t → Shut (more (binds u) d) x
-part_shut u (sort p s) q e = none_some q
-part_shut u (local p k) q e = none_some q
-part_shut u (entry p j) q e = none_some q
-part_shut {d} u (unary p w E) {x} q e =
-    let a = cond_some (eqb (code w) (code u)) q in
-    let b = unary_same w u (eqb_same (code w) (code u) a.0) in
-    subst (λ y. Shut (more (binds u) d) y) a.1 (subst (λ f. Shut (more (binds f) d) E) b (one e))
-part_shut u (binary p b E F) q e = none_some q
-part_shut u (choice p E F G) q e = none_some q
+part_shut u t q e = grind arith
 
 parts_shut : {d : ℕ} (b : Binary) (t : Term) {x : Term × Term} → r.parts b t ≡ Some x → Shut d t → Shut d x.0 × Shut (more (binds_last b) d) x.1
-parts_shut b (sort p s) q e = none_some q
-parts_shut b (local p k) q e = none_some q
-parts_shut b (entry p j) q e = none_some q
-parts_shut b (unary p u E) q e = none_some q
-parts_shut {d} b (binary p w E F) {x} q e =
-    let a = cond_some (eqb (code_two w) (code_two b)) q in
-    let s = binary_same w b (eqb_same (code_two w) (code_two b) a.0) in
-    subst (λ (y : Term × Term). Shut d y.0 × Shut (more (binds_last b) d) y.1) a.1
-    (fst_of e, subst (λ f. Shut (more (binds_last f) d) F) s (snd_of e))
-parts_shut b (choice p E F G) q e = none_some q
+parts_shut b t q e = grind arith
 
 -- contexts and entries
 pub record In (Γ : List Bound) : Type 0 where
@@ -138,10 +95,10 @@ pub record Fix (Δ : List (Option Term)) : Type 0 where
   pub is : Fixed Δ
 
 cons : {Γ : List Bound} {P : Term} → In Γ → Shut (length Γ) P → In (record { type = P; value = None } ∷ Γ)
-cons g p = record { is = (p.is, refl, g.is) }
+cons g p = grind arith
 
 cons_value : {Γ : List Bound} {P v : Term} → In Γ → Shut (length Γ) P → Shut (length Γ) v → In (record { type = P; value = Some v } ∷ Γ)
-cons_value g p v = record { is = (p.is, v.is, g.is) }
+cons_value g p v = grind arith
 
 push : {Δ : List (Option Term)} → Fix Δ → Fix (None ∷ Δ)
 push i = record { is = (refl, i.is) }
@@ -152,21 +109,21 @@ length_bindings (b ∷ Γ) = ap suc (length_bindings Γ)
 
 fixed : (Γ : List Bound) → Bounded Γ → Fixed (bindings Γ)
 fixed [] h = tt
-fixed (b ∷ Γ) h = (subst (λ n. closed_value n b.value ≡ true) (sym (length_bindings Γ)) h.1, fixed Γ h.2)
+fixed (b ∷ Γ) h = grind (arith, fixed Γ h.2, length_bindings)
 
 bound_at : (Γ : List Bound) (k : ℕ) {b : Bound} → Bounded Γ → slice_get Γ k ≡ Some b → (m : ℕ) × (m + (k + 1) ≡ length Γ) × Shut m b.type
-bound_at [] k h e = none_some e
-bound_at (c ∷ Γ) zero h e = (length Γ, omega arith, subst (λ (x : Bound). Shut (length Γ) x.type) (some_same e) (record { is = h.0 }))
-bound_at (c ∷ Γ) (suc k) h e = let i = bound_at Γ k h.2 e in (i.0, omega (arith, i.1), i.2)
+bound_at [] k h e = cc
+bound_at (c ∷ Γ) zero h e = grind arith
+bound_at (c ∷ Γ) (suc k) h e = grind (arith, bound_at Γ k h.2 e)
 
 fixed_at : (Δ : List (Option Term)) (k : ℕ) {v : Term} → Fixed Δ → slice_get Δ k ≡ Some (Some v) → (m : ℕ) × (m + (k + 1) ≡ length Δ) × Shut m v
-fixed_at [] k h e = none_some e
-fixed_at (c ∷ Δ) zero {v} h e = (length Δ, omega arith, record { is = subst (λ x. closed_value (length Δ) x ≡ true) (some_same e) h.0 })
-fixed_at (c ∷ Δ) (suc k) h e = let i = fixed_at Δ k h.1 e in (i.0, omega (arith, i.1), i.2)
+fixed_at [] k h e = cc
+fixed_at (c ∷ Δ) zero h e = grind arith
+fixed_at (c ∷ Δ) (suc k) h e = grind (arith, fixed_at Δ k h.1 e)
 
 sealed_at : (es : List Entry) (j : ℕ) {e : Entry} → Sealed es → slice_get es j ≡ Some e → Shut 0 e.type × (closed_value 0 e.value ≡ true)
-sealed_at [] j h q = none_some q
-sealed_at (c ∷ es) zero h q = subst (λ (x : Entry). Shut 0 x.type × (closed_value 0 x.value ≡ true)) (some_same q) (record { is = h.0 }, h.1)
+sealed_at [] j h q = cc
+sealed_at (c ∷ es) zero h q = grind arith
 sealed_at (c ∷ es) (suc j) h q = sealed_at es j h.2 q
 
 abbrev Scope : Judgement → Type 0
@@ -185,22 +142,21 @@ pub data Tame (d : ℕ) : Premises → Type 0 where
 
 module _ {d : ℕ} where
   opts : {A : Type 0} (m : Option A) (c : Premises) (f : A → Premises) → Tame d c → ((x : A) → m ≡ Some x → Tame d (f x)) → Tame d (on m c f)
-  opts None c f a b = a
-  opts (Some x) c f a b = b x refl
+  opts m c f a b = grind arith
 
   conds : (b : Bool) (c e : Premises) → Tame d c → Tame d e → Tame d (cond b c e)
   conds true c e a b = a
   conds false c e a b = b
 
   lowers : (n m : ℕ) (t : Term) (f : Term → Premises) → Shut (more n m) t → ((u : Term) → Shut m u → Tame d (f u)) → Tame d (r.lowering n t f)
-  lowers n m t f h k = opts (lower n 0 t) _ _ stops (λ u q. pays (k u (lowered_to n m q h)))
+  lowers n m t f h k = grind (arith, opts, stops, pays, lowered_to)
 
   module _ {Γ : List Bound} (g : In Γ) where
     sorted : {E : Term} (f : ℕ → Premises) → Shut (length Γ) E → ((s : ℕ) → Tame d (f s)) → Tame d (r.has_a_sort Γ E f)
-    sorted f e h = needs (g, e) (λ S _. opts (r.as_sort S) _ f stops (λ s _. h s))
+    sorted f e h = grind (arith, needs, opts, stops)
 
     parted : {E : Term} (b : Binary) (f : Term × Term → Premises) → Shut (length Γ) E → ((x : Term × Term) → Shut (length Γ) x.0 → Shut (more (binds_last b) (length Γ)) x.1 → Tame d (f x)) → Tame d (r.has_parts Γ b E f)
-    parted b f e h = needs (g, e) (λ S s. opts (r.parts b S) _ f stops (λ x q. let y = parts_shut b S q s in h x y.0 y.1))
+    parted b f e h = grind (arith, needs, opts, stops, parts_shut)
 
     forms : {p : ℕ} {E : Term} {k : Term → Premises} → Shut (length Γ) E → ((u : Term) → Shut (length Γ) u → Tame d (k u)) → Tame d (premise (gives p (bindings Γ) E) k)
     forms e h = needs (record { is = fixed Γ g.is }, at_depth (sym (length_bindings Γ)) e) (λ u q. h u (at_depth (length_bindings Γ) q))
@@ -211,25 +167,22 @@ module _ {d : ℕ} where
     arms : {P E : Term} (f : Term → Premises) → Shut (length Γ) P → Shut (suc (length Γ)) E → ((u : Term) → Shut (length Γ) u → Tame d (f u)) → Tame d (r.arm Γ P E f)
     arms f p e h = pays (needs (cons g p, e) (λ R q. lowers 1 (length Γ) R f q h))
 
-by : {d : ℕ} {c e : Premises} → c ≡ e → Tame d c → Tame d e
-by {d} q h = subst (λ x. Tame d x) q h
+by : {d : ℕ} {c e : Premises} → ◌≡◌ {A = Option Premises} (Some c) (Some e) → Tame d c → Tame d e
+by q h = grind arith
+
+-- what settles the premises of a rule
+ruleset tame = (ends, stops, pays, asks, needs, sames, opts, conds, lowers, sorted, parted, forms, fills, arms, part_shut, parts_shut, lifted, wide, put_one, put_two, cons, cons_value, push, shut_sort, up, one, fst_of, snd_of, two, three, of_three, at_depth, bound_at, fixed_at, sealed_at, by)
 
 module _ (es : List Entry) (sealed : Sealed es) where
   module _ {Γ : List Bound} (g : In Γ) where
-    has_local : (k : ℕ) → Tame (length Γ) (r.has_local Γ k)
-    has_local k = opts (slice_get Γ k) _ _ stops (λ b q. let i = bound_at Γ k g.is q in pays (ends (lifted (k + 1) (length Γ) i.1 i.2)))
-
-    has_entry : (j : ℕ) → Tame (length Γ) (r.has_entry es j)
-    has_entry j = opts (slice_get es j) _ _ stops (λ e q. ends (wide (length Γ) (sealed_at es j sealed q).0))
-
     has_join : {p s t : ℕ} → Tame (length Γ) (r.has_join p s t)
-    has_join = asks (λ u. ends shut_sort)
+    has_join = grind (arith, tame)
 
     has_former : {p : ℕ} {A B : Term} → Shut (length Γ) A → Shut (suc (length Γ)) B → Tame (length Γ) (r.has_former p Γ A B)
     has_former a b = sorted g _ a (λ s. forms g a (λ P p. pays (sorted (cons g p) _ b (λ t. has_join))))
 
     has_sum : {p : ℕ} {A B : Term} → Shut (length Γ) A → Shut (length Γ) B → Tame (length Γ) (r.has_sum p Γ A B)
-    has_sum a b = sorted g _ a (λ s. sorted g _ b (λ t. has_join))
+    has_sum a b = grind (arith, sorted, has_join)
 
     has_typed : {p : ℕ} {T E : Term} → Shut (length Γ) T → Shut (suc (length Γ)) E → Tame (length Γ) (r.has_typed p Γ T E)
     has_typed t e = sorted g _ t (λ s. forms g t (λ P p. pays (needs (cons g p, e) (λ Q q. ends (two Pi p q)))))
@@ -238,10 +191,10 @@ module _ (es : List Entry) (sealed : Sealed es) where
     has_app e f = parted g Pi _ e (λ x p q. needs (g, f, p) (λ _ _. fills g f q (λ u h. ends h)))
 
     has_first : {E : Term} → Shut (length Γ) E → Tame (length Γ) (r.has_first Γ E)
-    has_first e = parted g Sigma _ e (λ x p q. ends p)
+    has_first e = grind (arith, tame)
 
     has_second : {p : ℕ} {E : Term} → Shut (length Γ) E → Tame (length Γ) (r.has_second p Γ E)
-    has_second e = parted g Sigma _ e (λ x p q. fills g (up Fst e) q (λ u h. ends h))
+    has_second e = grind (arith, parted, fills, up, ends)
 
     has_unpack : {E F : Term} → Shut (length Γ) E → Shut (suc (suc (length Γ))) F → Tame (length Γ) (r.has_unpack Γ E F)
     has_unpack e f = parted g Exists _ e (λ x p q. pays (pays (needs (cons (cons g p) q, f) (λ R h. lowers 2 (length Γ) R _ h (λ u k. ends k)))))
@@ -258,32 +211,12 @@ module _ (es : List Entry) (sealed : Sealed es) where
     has_match e f h = parted g Sum _ e (λ x p q. arms g _ p f (λ R a. arms g _ q h (λ S b. sames (ends a))))
 
     has_tame : (E : Term) {c : Premises} → Shut (length Γ) E → r.has_rule es Γ E ≡ Some c → Tame (length Γ) c
-    has_tame (sort p s) e q = by (some_same q) (asks (λ u. ends shut_sort))
-    has_tame (local p k) e q = by (some_same q) (has_local k)
-    has_tame (entry p j) e q = by (some_same q) (has_entry j)
-    has_tame (unary p Fun E) e q = none_some q
-    has_tame (unary p Fst E) e q = by (some_same q) (has_first (one e))
-    has_tame (unary p Snd E) e q = by (some_same q) (has_second (one e))
-    has_tame (unary p Inl E) e q = none_some q
-    has_tame (unary p Inr E) e q = none_some q
-    has_tame (binary p Pi E F) e q = by (some_same q) (has_former (fst_of e) (snd_of e))
-    has_tame (binary p Sigma E F) e q = by (some_same q) (has_former (fst_of e) (snd_of e))
-    has_tame (binary p Exists E F) e q = by (some_same q) (has_former (fst_of e) (snd_of e))
-    has_tame (binary p Typed E F) e q = by (some_same q) (has_typed (fst_of e) (snd_of e))
-    has_tame (binary p App E F) e q = by (some_same q) (has_app (fst_of e) (snd_of e))
-    has_tame (binary p Pair E F) e q = none_some q
-    has_tame (binary p Pack E F) e q = none_some q
-    has_tame (binary p Unpack E F) e q = by (some_same q) (has_unpack (fst_of e) (snd_of e))
-    has_tame (binary p Sum E F) e q = by (some_same q) (has_sum (fst_of e) (snd_of e))
-    has_tame (binary p Ascribe E F) e q = by (some_same q) (has_ascription p F (fst_of e) (snd_of e))
-    has_tame (binary p Let E F) e q = by (some_same q) (has_let (fst_of e) (snd_of e))
-    has_tame (choice p E F G) e q = let t = of_three e in by (some_same q) (has_match t.0 t.1 t.2)
-
-    meets_equal : {E S : Term} → Shut (length Γ) E → Shut (length Γ) S → Tame (length Γ) (r.meets_equal Γ E S)
-    meets_equal e s = needs (g, e) (λ Q q. sames (ends s))
-
-    meets_fun : {E : Term} (S : Term) → Shut (suc (length Γ)) E → Shut (length Γ) S → Tame (length Γ) (r.meets_fun Γ E S)
-    meets_fun S e s = opts (r.parts Pi S) _ _ stops (λ x q. let y = parts_shut Pi S q s in pays (needs (cons g y.0, e, y.1) (λ _ _. ends s)))
+    has_tame (sort p s) e q = grind (arith, tame)
+    has_tame (local p k) e q = grind (arith, tame)
+    has_tame (entry p j) e q = grind (arith, tame)
+    has_tame (unary p u E) e q = grind (arith, by, one, has_first, has_second)
+    has_tame (binary p b E F) e q = grind (arith, by, fst_of, snd_of, has_former, has_typed, has_app, has_unpack, has_sum, has_ascription, has_let)
+    has_tame (choice p E F G) e q = grind (arith, by, of_three, has_match)
 
     meets_pair : {E F : Term} (p : ℕ) (b : Binary) (S : Term) → binds_last b ≡ 1 → Shut (length Γ) E → Shut (length Γ) F → Shut (length Γ) S → Tame (length Γ) (r.meets_pair b p Γ E F S)
     meets_pair p b S n e f s =
@@ -291,88 +224,57 @@ module _ (es : List Entry) (sealed : Sealed es) where
         let y = parts_shut b S q s in
         needs (g, e, y.0) (λ _ _. fills g e (at_depth (ap (λ k. more k (length Γ)) n) y.1) (λ R h. needs (g, f, h) (λ _ _. ends s))))
 
-    meets_left : {E : Term} (S : Term) → Shut (length Γ) E → Shut (length Γ) S → Tame (length Γ) (r.meets_left Γ E S)
-    meets_left S e s = opts (r.parts Sum S) _ _ stops (λ x q. needs (g, e, (parts_shut Sum S q s).0) (λ _ _. ends s))
-
-    meets_right : {E : Term} (S : Term) → Shut (length Γ) E → Shut (length Γ) S → Tame (length Γ) (r.meets_right Γ E S)
-    meets_right S e s = opts (r.parts Sum S) _ _ stops (λ x q. needs (g, e, (parts_shut Sum S q s).1) (λ _ _. ends s))
-
     meets_tame : (E S : Term) → Shut (length Γ) E → Shut (length Γ) S → Tame (length Γ) (r.meets_rule Γ E S)
-    meets_tame (sort p s) S e h = meets_equal e h
-    meets_tame (local p k) S e h = meets_equal e h
-    meets_tame (entry p j) S e h = meets_equal e h
-    meets_tame (unary p Fun E) S e h = meets_fun S (one e) h
-    meets_tame (unary p Fst E) S e h = meets_equal e h
-    meets_tame (unary p Snd E) S e h = meets_equal e h
-    meets_tame (unary p Inl E) S e h = meets_left S (one e) h
-    meets_tame (unary p Inr E) S e h = meets_right S (one e) h
-    meets_tame (binary p Pi E F) S e h = meets_equal e h
-    meets_tame (binary p Sigma E F) S e h = meets_equal e h
-    meets_tame (binary p Exists E F) S e h = meets_equal e h
-    meets_tame (binary p Typed E F) S e h = meets_equal e h
-    meets_tame (binary p App E F) S e h = meets_equal e h
-    meets_tame (binary p Pair E F) S e h = meets_pair p Sigma S refl (fst_of e) (snd_of e) h
-    meets_tame (binary p Pack E F) S e h = meets_pair p Exists S refl (fst_of e) (snd_of e) h
-    meets_tame (binary p Unpack E F) S e h = meets_equal e h
-    meets_tame (binary p Sum E F) S e h = meets_equal e h
-    meets_tame (binary p Ascribe E F) S e h = meets_equal e h
-    meets_tame (binary p Let E F) S e h = meets_equal e h
-    meets_tame (choice p E F G) S e h = meets_equal e h
+    meets_tame (sort p s) S e h = grind (arith, tame)
+    meets_tame (local p k) S e h = grind (arith, tame)
+    meets_tame (entry p j) S e h = grind (arith, tame)
+    meets_tame (unary p u E) S e h = grind (arith, tame)
+    meets_tame (binary p b E F) S e h = grind (arith, tame, meets_pair)
+    meets_tame (choice p E F G) S e h = grind (arith, tame)
 
   module _ {Δ : List (Option Term)} (i : Fix Δ) where
-    gives_local : {E : Term} (k : ℕ) → Shut (length Δ) E → Tame (length Δ) (r.gives_local Δ k E)
-    gives_local k e =
-        opts (slice_get Δ k) _ _ stops (λ b q. opts b _ _ (ends e) (λ v h.
-        let m = fixed_at Δ k i.is (q ∙ ap Some h) in
-        pays (ends (lifted (k + 1) (length Δ) m.1 m.2))))
-
     value_shut : (v : Option Term) {x : Term} → closed_value 0 v ≡ true → v ≡ Some x → Shut (length Δ) x
-    value_shut v h q = wide (length Δ) (record { is = subst (λ y. closed_value 0 y ≡ true) q h })
+    value_shut v e f = grind (arith, tame)
 
     gives_entry : {E : Term} (j : ℕ) → Shut (length Δ) E → Tame (length Δ) (r.gives_entry es j E)
     gives_entry j e =
         opts (slice_get es j) _ _ stops (λ a q. opts a.value _ _ (ends e) (λ v h. ends (value_shut a.value (sealed_at es j sealed q).1 h)))
 
     gives_fun : {p : ℕ} {E : Term} → Shut (suc (length Δ)) E → Tame (length Δ) (r.gives_fun p Δ E)
-    gives_fun e = pays (needs (push i, e) (λ v h. ends (up Fun h)))
+    gives_fun e = grind (arith, tame)
 
     gives_under : {p : ℕ} {A B : Term} (b : Binary) → binds_last b ≡ 1 → Shut (length Δ) A → Shut (suc (length Δ)) B → Tame (length Δ) (r.gives_under p Δ b A B)
-    gives_under b n e f = needs (i, e) (λ P h. pays (needs (push i, f) (λ Q k. ends (two b h (at_depth (ap (λ m. more m (length Δ)) (sym n)) k)))))
+    gives_under b e f h = grind (arith, tame)
 
     gives_beside : {p : ℕ} {E F : Term} (b : Binary) → binds_last b ≡ 0 → Shut (length Δ) E → Shut (length Δ) F → Tame (length Δ) (r.gives_beside p Δ b E F)
-    gives_beside b n e f = needs (i, e) (λ v h. needs (i, f) (λ w k. ends (two b h (at_depth (ap (λ m. more m (length Δ)) (sym n)) k))))
+    gives_beside b e f h = grind (arith, tame)
 
     fill_one : {p : ℕ} {v E : Term} → Shut (length Δ) v → Shut (suc (length Δ)) E → Tame (length Δ) (r.gives_filled p Δ (v ∷ []) E)
-    fill_one v e = pays (needs (i, put_one v e) (λ u h. ends h))
+    fill_one e f = grind (arith, tame)
 
     fill_two : {p : ℕ} {v w E : Term} → Shut (length Δ) v → Shut (length Δ) w → Shut (suc (suc (length Δ))) E → Tame (length Δ) (r.gives_filled p Δ (v ∷ (w ∷ [])) E)
-    fill_two v w e = pays (needs (i, put_two v w e) (λ u h. ends h))
+    fill_two e f h = grind (arith, tame)
 
     kept : {c : Premises} (t : Term) → Tame (length Δ) c → Tame (length Δ) (r.kept es Δ t c)
-    kept t h = conds (r.neutral es Δ t) _ _ h stops
+    kept t e = grind (arith, tame)
 
     gives_app : {p : ℕ} {E F : Term} → Shut (length Δ) E → Shut (length Δ) F → Tame (length Δ) (r.gives_app es p Δ E F)
-    gives_app e f =
-        needs (i, e) (λ h a. needs (i, f) (λ v b.
-        opts (r.part Fun h) _ _ (kept h (ends (two App a b))) (λ x q. fill_one b (part_shut Fun h q a))))
+    gives_app e f = grind (arith, needs, opts, kept, ends, two, fill_one, part_shut)
 
     gives_let : {p : ℕ} {E F : Term} → Shut (length Δ) E → Shut (suc (length Δ)) F → Tame (length Δ) (r.gives_let p Δ E F)
-    gives_let e f = needs (i, e) (λ v h. fill_one h f)
+    gives_let e f = grind (arith, tame)
 
     gives_first : {p : ℕ} {E : Term} → Shut (length Δ) E → Tame (length Δ) (r.gives_first es p Δ E)
-    gives_first e = needs (i, e) (λ v h. opts (r.parts Pair v) _ _ (kept v (ends (up Fst h))) (λ x q. ends (parts_shut Pair v q h).0))
+    gives_first e = grind (arith, tame)
 
     gives_second : {p : ℕ} {E : Term} → Shut (length Δ) E → Tame (length Δ) (r.gives_second es p Δ E)
-    gives_second e = needs (i, e) (λ v h. opts (r.parts Pair v) _ _ (kept v (ends (up Snd h))) (λ x q. ends (parts_shut Pair v q h).1))
+    gives_second e = grind (arith, tame)
 
     gives_wrap : {p : ℕ} {E : Term} (u : Unary) → binds u ≡ 0 → Shut (length Δ) E → Tame (length Δ) (r.gives_wrap p Δ u E)
-    gives_wrap u n e = needs (i, e) (λ v h. ends (up u (at_depth (ap (λ m. more m (length Δ)) (sym n)) h)))
+    gives_wrap u e f = grind (arith, tame)
 
     gives_unpack : {p : ℕ} {E F : Term} → Shut (length Δ) E → Shut (suc (suc (length Δ))) F → Tame (length Δ) (r.gives_unpack es p Δ E F)
-    gives_unpack e f =
-        needs (i, e) (λ v h.
-        opts (r.parts Pack v) _ _ (kept v (pays (pays (needs (push (push i), f) (λ w k. ends (two Unpack h k))))))
-        (λ x q. let y = parts_shut Pack v q h in fill_two y.1 y.0 f))
+    gives_unpack e f = grind (arith, needs, opts, kept, pays, push, ends, two, parts_shut, fill_two)
 
     gives_match : {p : ℕ} {E F G : Term} → Shut (length Δ) E → Shut (suc (length Δ)) F → Shut (suc (length Δ)) G → Tame (length Δ) (r.gives_match es p Δ E F G)
     gives_match e f g =
@@ -384,32 +286,18 @@ module _ (es : List Entry) (sealed : Sealed es) where
         (λ x q. fill_one (part_shut Inl v q h) f))
 
     gives_tame : (w : ℕ) (E : Term) → Shut (length Δ) E → Tame (length Δ) (r.gives_rule es w Δ E)
-    gives_tame w (sort p s) e = ends e
-    gives_tame w (local p k) e = gives_local k e
-    gives_tame w (entry p j) e = gives_entry j e
-    gives_tame w (unary p Fun E) e = gives_fun (one e)
-    gives_tame w (unary p Fst E) e = gives_first (one e)
-    gives_tame w (unary p Snd E) e = gives_second (one e)
-    gives_tame w (unary p Inl E) e = gives_wrap Inl refl (one e)
-    gives_tame w (unary p Inr E) e = gives_wrap Inr refl (one e)
-    gives_tame w (binary p Pi E F) e = gives_under Pi refl (fst_of e) (snd_of e)
-    gives_tame w (binary p Sigma E F) e = gives_under Sigma refl (fst_of e) (snd_of e)
-    gives_tame w (binary p Exists E F) e = gives_under Exists refl (fst_of e) (snd_of e)
-    gives_tame w (binary p Typed E F) e = gives_fun (snd_of e)
-    gives_tame w (binary p App E F) e = gives_app (fst_of e) (snd_of e)
-    gives_tame w (binary p Pair E F) e = gives_beside Pair refl (fst_of e) (snd_of e)
-    gives_tame w (binary p Pack E F) e = gives_beside Pack refl (fst_of e) (snd_of e)
-    gives_tame w (binary p Unpack E F) e = gives_unpack (fst_of e) (snd_of e)
-    gives_tame w (binary p Sum E F) e = gives_beside Sum refl (fst_of e) (snd_of e)
-    gives_tame w (binary p Ascribe E F) e = needs (i, fst_of e) (λ u h. ends h)
-    gives_tame w (binary p Let E F) e = gives_let (fst_of e) (snd_of e)
-    gives_tame w (choice p E F G) e = let t = of_three e in gives_match t.0 t.1 t.2
+    gives_tame w (sort p s) e = grind (arith, tame)
+    gives_tame w (local p k) e = grind (arith, tame)
+    gives_tame w (entry p j) e = grind (arith, tame, gives_entry)
+    gives_tame w (unary p u E) e = grind (arith, one, gives_fun, gives_first, gives_second, gives_wrap)
+    gives_tame w (binary p b E F) e = grind (arith, ends, needs, fst_of, snd_of, gives_under, gives_beside, gives_fun, gives_app, gives_unpack, gives_let)
+    gives_tame w (choice p E F G) e = grind (arith, of_three, gives_match)
 
   rule_tame : (j : Judgement) {c : Premises} → Scope j → r.rule es j ≡ Some c → Tame (depth j) c
   unfolding r.rule
   rule_tame (has Γ E) h q = has_tame h.0 E h.1 q
-  rule_tame (meets Γ E S) h q = by (some_same q) (meets_tame h.0 E S h.1 h.2)
-  rule_tame (gives p Δ E) h q = by (some_same q) (gives_tame h.0 p E h.1)
+  rule_tame (meets Γ E S) h q = by q (meets_tame h.0 E S h.1 h.2)
+  rule_tame (gives p Δ E) h q = by q (gives_tame h.0 p E h.1)
 
   module _ (S : System) where
     mutual
@@ -424,9 +312,7 @@ module _ (es : List Entry) (sealed : Sealed es) where
       chain_shut (sames h) (equal e d) = chain_shut h d
 
 scope : (j : Judgement) → Scoped j → Scope j
-scope (has Γ E) h = (record { is = h.0 }, record { is = h.1 })
-scope (meets Γ E P) h = (record { is = h.0 }, record { is = h.1 }, record { is = h.2 })
-scope (gives p Δ E) h = (record { is = h.0 }, record { is = h.1 })
+scope j h = grind arith
 
 -- what is derived from sealed entries of a scoped judgement is closed
 pub derives_closed : (S : System) (es : List Entry) → Sealed es → (j : Judgement) (t : Term) (n : ℕ) → Scoped j → Derives S es j t n → closed (depth j) t ≡ true

@@ -1,5 +1,5 @@
 -- The laws put together.
-use Rattle.std.proofs.Common.{List}
+use Rattle.std.proofs.Common.{List, arith}
 use Rattle.rules.specs.Rules.{Judgement, Entry, Premises}
 use Rattle.rules.specs.Derivation.{System, Spot}
 use Rattle.rules.specs.Laws.{Wider, JudgementLaws, PremiseLaws, WiderLaws, Laws}
@@ -32,15 +32,7 @@ module _ (S : System) (es : List Entry) where
       }
 
   wider_laws : (W : System) → Wider S W → WiderLaws S es W
-  wider_laws W h =
-      record {
-        derives = λ j t n. wider_derives S W h es;
-        refuses = λ j r n q d. wider_refuses S W h es d q;
-        exceeds = λ j b. wider_exceeds S W h es;
-        concludes = λ c t v n. wider_chain S W h es;
-        halts = λ w c r n q d. wider_halts S W h es d q;
-        passes = λ c b. wider_passes S W h es;
-      }
+  wider_laws W h = grind (arith, wider_derives, wider_refuses, wider_exceeds, wider_chain, wider_halts, wider_passes)
 
 pub laws : Laws
 laws S es = record { judgements = judgement_laws S es; premises = premise_laws S es; wider = wider_laws S es; scoped = derives_closed S es }

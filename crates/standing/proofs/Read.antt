@@ -1,16 +1,16 @@
 -- What is read has its locals bound, its entries there and its sorts low.
-use Rattle.std.proofs.Common.{◌≡◌, ℕ, suc, ◌+◌, ◌<◌, ◌≤◌, Bool, true, false, cond, not, ◌||◌, List, [], ◌∷◌, length, Some, None, Option, refl, ap, subst, arith}
+use Rattle.std.proofs.Common.{◌≡◌, ℕ, suc, ◌+◌, ◌<◌, ◌≤◌, Bool, true, false, cond, not, List, [], ◌∷◌, length, Some, None, Option, refl, ap, subst, arith}
 use Rattle.std.specs.List.{AllByRecursion}
 use Rattle.std.specs.Str.{bytes_eq}
-use Rattle.std.proofs.lemmas.Bool.{cond_both, lt-leb}
+use Rattle.std.proofs.lemmas.Bool.{lt-leb}
 use Rattle.std.proofs.ByRecursion.{All-weaker}
 use Rattle.script.specs.declared.token.Mark.{Mark}
 use Rattle.script.specs.declared.statement.StatementKind.{StatementKind}
 use Rattle.script.specs.Names.{last_from}
 use Rattle.term.specs.Forms.{binds, binds_last}
-use Rattle.term.specs.Term.{Term, sort, local, entry, unary, binary, choice, any_local, leaving, closed}
+use Rattle.term.specs.Term.{Term, sort, local, entry, unary, binary, choice, closed}
 use Rattle.grammar.specs.Words.{Token, name, number, mark, first, no_token, Word}
-use Rattle.grammar.specs.Grammar.{Name, Sign, expr, sums, products, application, atom, arguments, find, find_entry, later, number_in, next_number, past, tree}
+use Rattle.grammar.specs.Grammar.{Name, Sign, expr, sums, products, application, atom, arguments, find, find_entry, past, tree}
 use Rattle.grammar.specs.Phrases.{Takes, took, Calls, called, Counts, counted, Phrase}
 use Rattle.grammar.specs.Phrases.Phrase.{a_function, a_typed_function, a_pi, a_forall, a_sigma, an_exists, a_let, a_typed_let, an_unpack, no_arrow, an_arrow, no_plus, a_sum, no_times, a_product}
 use Rattle.grammar.specs.Phrases.Phrase.{by_atom, by_fst, by_snd, by_inl, by_inr, no_more, one_more, a_local, an_entry, a_type, a_prop, a_kind, a_sort, a_group, an_ascription, a_pair, a_pack, a_match, a_turned_match}
@@ -25,14 +25,9 @@ abbrev Within : ℕ → Option ℕ → Type 0
 Within n None = Unit {0}
 Within n (Some k) = k < n
 
-later_within : (n : ℕ) (o : Option ℕ) → Within n o → Within (suc n) (later o)
-later_within n None h = tt
-later_within n (Some k) h = omega arith
-
 find_within : (x : Name) (sc : List Name) → Within (length sc) (find x sc)
 find_within x [] = tt
-find_within x (y ∷ sc) =
-    cond_both (bytes_eq y x) _ _ (Within (suc (length sc))) (λ e. omega arith) (λ e. later_within (length sc) (find x sc) (find_within x sc))
+find_within x (y ∷ sc) = grind (arith, find_within x sc)
 
 one_later : (i : ℕ) (b : Bool) (o : Option ℕ) → Within i o → Within (i + 1) (cond b (Some i) o)
 one_later i true o h = omega arith
@@ -40,19 +35,13 @@ one_later i false None h = tt
 one_later i false (Some k) h = omega arith
 
 last_within : (p : Name → Bool) (i : ℕ) (o : Option ℕ) (xs : List Name) → Within i o → Within (i + length xs) (last_from p i o xs)
-last_within p i o [] h = let e : i ≡ i + 0 = omega arith in subst (λ n. Within n o) e h
-last_within p i o (x ∷ xs) h =
-    let e : i + 1 + length xs ≡ i + suc (length xs) = omega arith in
-    subst (λ n. Within n (last_from p i o (x ∷ xs))) e (last_within p (i + 1) (cond (p x) (Some i) o) xs (one_later i (p x) o h))
+last_within p i o [] h = grind arith
+last_within p i o (x ∷ xs) h = grind (arith, last_within p (i + 1) (cond (p x) (Some i) o) xs (one_later i (p x) o h))
 
 entry_within : (x : Name) (es : List Name) → Within (length es) (find_entry x es)
 entry_within x es =
     let e : 0 + length es ≡ length es = omega arith in
     subst (λ n. Within n (find_entry x es)) e (last_within (λ y. bytes_eq y x) 0 None es tt)
-
-both : (a b : Bool) → not a ≡ true → not b ≡ true → not (a || b) ≡ true
-both true b e f = e
-both false b e f = f
 
 -- q of the numbers
 module _ (q : ℕ → Type 0) where
@@ -76,19 +65,8 @@ module _ (q : ℕ → Type 0) where
   calls : {x : Name} {a b : List Word} → Calls x a b → AllFine a → AllFine b
   calls {a = a} (called e) h = past_fine a h
 
-  number_fine : (n : ℕ) (x : Token) → number_in x ≡ Some n → Fine x → q n
-  number_fine n (name y) e h = let z : ◌≡◌ {A = ℕ} 0 1 = cc in absurd (omega arith)
-  number_fine n (number k) e h = let i : k ≡ n = cc in subst q i h
-  number_fine n (mark m) e h = let z : ◌≡◌ {A = ℕ} 0 1 = cc in absurd (omega arith)
-  number_fine n (first w) e h = let z : ◌≡◌ {A = ℕ} 0 1 = cc in absurd (omega arith)
-  number_fine n no_token e h = let z : ◌≡◌ {A = ℕ} 0 1 = cc in absurd (omega arith)
-
-  next_fine : (n : ℕ) (a : List Word) → next_number a ≡ Some n → AllFine a → q n
-  next_fine n [] e h = let z : ◌≡◌ {A = ℕ} 0 1 = cc in absurd (omega arith)
-  next_fine n (w ∷ a) e h = number_fine n w.token e h.0
-
   counts : {n : ℕ} {a b : List Word} → Counts n a b → AllFine a → q n × AllFine b
-  counts {n} {a} (counted e) h = (next_fine n a e h, past_fine a h)
+  counts {n} {a} (counted e) h = grind arith
 
   -- under d binders and after m entries, the sorts by q
   module _ (m : ℕ) where
@@ -106,23 +84,21 @@ module _ (q : ℕ → Type 0) where
       left : AllFine z
 
     flat : {d : ℕ} {t : Term} {z : List Word} → Stood d t z → Stands (0 + d) t
-    flat {d} {t} r = let e : d ≡ 0 + d = omega arith in subst (λ n. Stands n t) e r.is
+    flat {d} {t} r = grind arith
 
     under : {d : ℕ} {t : Term} {z : List Word} → Stood (suc d) t z → Stands (1 + d) t
-    under {d} {t} r = let e : suc d ≡ 1 + d = omega arith in subst (λ n. Stands n t) e r.is
+    under {d} {t} r = grind arith
 
     under_two : {d : ℕ} {t : Term} {z : List Word} → Stood (suc (suc d)) t z → Stands (2 + d) t
-    under_two {d} {t} r = let e : suc (suc d) ≡ 2 + d = omega arith in subst (λ n. Stands n t) e r.is
+    under_two {d} {t} r = grind arith
 
     shut : (d : ℕ) (t : Term) → Stands d t → closed d t ≡ true
     shut d (sort p s) h = refl
     shut d (local p k) h = ap not (lt-leb d k h)
     shut d (entry p j) h = refl
     shut d (unary p u E) h = shut (binds u + d) E h
-    shut d (binary p b E F) h = both (any_local leaving d E) _ (shut d E h.0) (shut (binds_last b + d) F h.1)
-    shut d (choice p E F G) h =
-        both (any_local leaving d E) _ (shut d E h.0)
-        (both (any_local leaving (1 + d) F) _ (shut (1 + d) F h.1) (shut (1 + d) G h.2))
+    shut d (binary p b E F) h = grind (arith, shut d E h.0, shut (binds_last b + d) F h.1)
+    shut d (choice p E F G) h = grind (arith, shut d E h.0, shut (1 + d) F h.1, shut (1 + d) G h.2)
 
   module _ (entries : List Name) (end : ℕ) (none : q 0) (one : q 1) where
     abbrev m : ℕ
@@ -141,9 +117,7 @@ module _ (q : ℕ → Type 0) where
     Held atom sc = Unit {0}
 
     stands : {g : Sign} {sc : List Name} {a z : List Word} {t : Term} → Phrase entries end g sc a z t → Held g sc → AllFine a → Stood m (length sc) t z
-    stands (a_function i j k p) o h =
-        let r = stands p tt (takes k (calls j (takes i h))) in
-        record { is = under m r; left = r.left }
+    stands (a_function i j k p) o h = grind (arith, stands p tt (takes k (calls j (takes i h))))
     stands (a_typed_function i j k l p n y s) o h =
         let r = stands p tt (takes l (calls k (takes j (takes i h)))) in
         let v = stands s tt (takes y (takes n r.left)) in
@@ -262,11 +236,7 @@ read_closed entries end ws us t d =
     shut (λ n. Unit {0}) (length entries) 0 t (stated (λ n. Unit {0}) entries end tt tt ws us t d (any_fine ws))
 
 low_fine : (x : Token) → Low x → Fine (λ n. n ≤ 65535) x
-low_fine (name x) h = tt
-low_fine (number n) h = h
-low_fine (mark m) h = tt
-low_fine (first w) h = tt
-low_fine no_token h = tt
+low_fine x h = grind arith
 
 bounded : (m d : ℕ) (t : Term) → Stands (λ n. n ≤ 65535) m d t → Bounded m t
 bounded m d (sort p s) h = h
