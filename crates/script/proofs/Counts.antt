@@ -38,7 +38,7 @@ module _ {s : List ℕ} {from : ℕ} {t₀ : Tally} {s' : List ℕ} {at : ℕ} {
         few = omega (arith, ap (λ (v : Tally). v.tokens) w, h.few, k.forward, k.ahead.2);
       }
 
-  stops : (to : ℕ) → lexemes_from s at ≡ lexemes_from s to → until (lexemes_from s to) ≡ [] → from_next (lexemes_from s to) ≡ lexemes_from s to → to ≡ begin_at s (lexemes_from s to) → at ≤ to → Counted s from to t₀ t
+  stops : (to : ℕ) → lexemes_from s at ≡ lexemes_from s to → until (lexemes_from s to) ≡ [] → from_next (lexemes_from s to) ≡ lexemes_from s to → to ≡ begin_at s (lexemes_from s to) → at ≤ to → Counted t₀ s from to t
   stops to e u n b f =
       record {
         count = sym (ap (tally t) (ap until e ∙ u)) ∙ h.count;
@@ -47,14 +47,14 @@ module _ {s : List ℕ} {from : ℕ} {t₀ : Tally} {s' : List ℕ} {at : ℕ} {
         forward = omega (arith, h.forward);
       }
 
-  pub stops_end : (to : ℕ) → Sought s' at to None → Counted s from to t₀ t
+  pub stops_end : (to : ℕ) → Sought s' at to None → Counted t₀ s from to t
   unfolding until from_next
   stops_end to k =
       let k' : Sought s at to None = subst (λ x. Sought x at to None) h.same k in
       let e = k'.ahead.0 in
       stops to k'.same (ap until e) (ap from_next e ∙ sym e) (k'.ahead.1 ∙ sym (ap (begin_at s) e)) k.forward
 
-  pub stops_first : (to : ℕ) (l : Lexeme) → Sought s' at to (Some l) → first_word l ≡ true → Counted s from to t₀ t
+  pub stops_first : (to : ℕ) (l : Lexeme) → Sought s' at to (Some l) → first_word l ≡ true → Counted t₀ s from to t
   stops_first to l k f =
       let k' : Sought s at to (Some l) = subst (λ x. Sought x at to (Some l)) h.same k in
       let e = k'.ahead.0 in
@@ -65,7 +65,7 @@ ahead_head s at None h = ap head h.0
 ahead_head s at (Some l) h = ap head h.0
 
 -- the statement that was read
-pub stated : (s : List ℕ) (from a b c : ℕ) (l : Lexeme) (second : Option Lexeme) (name : Option Span) (t : Tally) → LexemeTaken s from a (Some l) → Sought s a b second → name ≡ entered s (statement_kind l.kind) second → Counted s b c (one_more none_yet l) t → StatementTaken s from c (Some (record { at = l.at; end = c; kind = statement_kind l.kind; name = name; tokens = t.tokens; wrong = t.wrong }))
+pub stated : (s : List ℕ) (from a b c : ℕ) (l : Lexeme) (second : Option Lexeme) (name : Option Span) (t : Tally) → LexemeTaken s from a (Some l) → Sought s a b second → name ≡ entered s (statement_kind l.kind) second → Counted (one_more none_yet l) s b c t → StatementTaken s from c (Some (record { at = l.at; end = c; kind = statement_kind l.kind; name = name; tokens = t.tokens; wrong = t.wrong }))
 unfolding statements_from
 stated s from a b c l second name t h k n w =
     let la = lexemes_from s a in
@@ -84,11 +84,11 @@ stated s from a b c l second name t h k n w =
     )
 
 -- the same, from readings of a script that has stayed
-pub stated_since : (s s₁ s₂ : List ℕ) (from a b c : ℕ) (l : Lexeme) (kind : Option StatementKind) (second : Option Lexeme) (name : Option Span) (t₀ t : Tally) → s₁ ≡ s → s₂ ≡ s₁ → LexemeTaken s from a (Some l) → kind ≡ statement_kind l.kind → Sought s₁ a b second → name ≡ entered s₂ kind second → t₀ ≡ one_more none_yet l → Counted s₂ b c t₀ t → StatementTaken s from c (Some (record { at = l.at; end = c; kind = kind; name = name; tokens = t.tokens; wrong = t.wrong }))
+pub stated_since : (s s₁ s₂ : List ℕ) (from a b c : ℕ) (l : Lexeme) (kind : Option StatementKind) (second : Option Lexeme) (name : Option Span) (t₀ t : Tally) → s₁ ≡ s → s₂ ≡ s₁ → LexemeTaken s from a (Some l) → kind ≡ statement_kind l.kind → Sought s₁ a b second → name ≡ entered s₂ kind second → t₀ ≡ one_more none_yet l → Counted t₀ s₂ b c t → StatementTaken s from c (Some (record { at = l.at; end = c; kind = kind; name = name; tokens = t.tokens; wrong = t.wrong }))
 stated_since s s₁ s₂ from a b c l kind second name t₀ t e₁ e₂ h ke k n te w =
     subst (λ x. StatementTaken s from c (Some (record { at = l.at; end = c; kind = x; name = name; tokens = t.tokens; wrong = t.wrong }))) (sym ke)
     (stated s from a b c l second name t h (subst (λ x. Sought x a b second) e₁ k)
-    (n ∙ ap₂ (λ x y. entered x y second) (e₂ ∙ e₁) ke) (subst (λ x. Counted x b c (one_more none_yet l) t) (e₂ ∙ e₁) (subst (λ x. Counted s₂ b c x t) te w)))
+    (n ∙ ap₂ (λ x y. entered x y second) (e₂ ∙ e₁) ke) (subst (λ x. Counted (one_more none_yet l) x b c t) (e₂ ∙ e₁) (subst (λ x. Counted x s₂ b c t) te w)))
 
 pub none_stated : (s : List ℕ) (from to : ℕ) → LexemeTaken s from to None → StatementTaken s from to None
 unfolding statements_from
