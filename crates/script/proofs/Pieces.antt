@@ -9,7 +9,7 @@ use Rattle.script.specs.Scan.{judged_number, token_of}
 use Rattle.script.proofs.Numbers.{judged_is}
 
 -- the bytes that lead are all of the class
-leads : (p : ℕ → Bool) (bs : List ℕ) → AllByRecursion (λ b. p b ≡ true) (take (prefix_len p bs) bs)
+pub leads : (p : ℕ → Bool) (bs : List ℕ) → AllByRecursion (λ b. p b ≡ true) (take (prefix_len p bs) bs)
 leads p [] = tt
 leads p (b ∷ bs) =
     cond_both (p b) _ _ (λ n. AllByRecursion (λ c. p c ≡ true) (take n (b ∷ bs)))

@@ -1,5 +1,5 @@
 //! How a reader moves over statements.
-ghost use Rattle.std.specs.Prelude.{◌≡◌, ◌≤◌};
+ghost use Rattle.std.specs.Prelude.{◌≡◌, ◌≤◌, length};
 ghost use Rattle.std.specs.Iterator.{YieldsFirst, item_count};
 ghost use Rattle.script.specs.Statements.{statements_from};
 ghost use Rattle.script.specs.View.{script, Moves, Counted, StatementTaken};
@@ -44,8 +44,10 @@ impl<'a> Reader<'a> {
     }
 
     /// The statements before it, one after the other.
+    #[tactic(auto, using(crate::proofs::Few::few_statements))]
     pub fn statements(self) -> Statements<'a>
-        ensures { left result ≡ statements_from (script self.entry) self.entry.at }
+        ensures value { left result ≡ statements_from (script self.entry) self.entry.at }
+        ensures few { length (left result) ≤ length (script self.entry) }
     {
         Statements { reader: self }
     }
