@@ -2,7 +2,7 @@
 ghost use Rattle.std.specs.Prelude.{◌≡◌, ◌+◌, ◌<◌, ◌≤◌, min, length, drop};
 ghost use Rattle.script.specs.Laws.{Rejoins, Cuts};
 ghost use Rattle.script.specs.Parts.{line_start, lexemes_from};
-ghost use Rattle.script.specs.View.{script, PartAhead, PartTaken, LexemeTaken, Sought};
+ghost use Rattle.script.specs.View.{script, Moves, PartAhead, PartTaken, LexemeTaken, Sought};
 
 use super::Reader;
 use crate::lex;
@@ -75,8 +75,7 @@ impl<'a> Reader<'a> {
 
     /// The next part, passed; none at the end.
     pub fn next_part(&mut self) -> Option<Part>
-        ensures script { script self.new ≡ script self.old }
-        ensures taken { PartTaken (script self.old) self.old.at self.new.at result }
+        ensures { Moves PartTaken self.old self.new result }
     {
         let part = self.peek()?;
         self.at += part.len;
@@ -85,8 +84,7 @@ impl<'a> Reader<'a> {
 
     /// On to the next lexeme's first byte, or to the end; the lexeme is told and not passed.
     pub fn seek(&mut self) -> Option<Lexeme>
-        ensures script { script self.new ≡ script self.old }
-        ensures sought { Sought (script self.old) self.old.at self.new.at result }
+        ensures { Moves Sought self.old self.new result }
     {
         while let Some(part) = self.peek() {
             if let Some(kind) = part.kind {
@@ -103,8 +101,7 @@ impl<'a> Reader<'a> {
 
     /// The next lexeme, passed; none at the end.
     pub fn next_lexeme(&mut self) -> Option<Lexeme>
-        ensures script { script self.new ≡ script self.old }
-        ensures taken { LexemeTaken (script self.old) self.old.at self.new.at result }
+        ensures { Moves LexemeTaken self.old self.new result }
     {
         let lexeme = self.seek()?;
         self.at += lexeme.len;

@@ -1,8 +1,8 @@
 //! How a reader moves over statements.
-ghost use Rattle.std.specs.Prelude.{◌≡◌, ◌≤◌};
+ghost use Rattle.std.specs.Prelude.{◌≡◌, ◌≤◌, length};
 ghost use Rattle.std.specs.Iterator.{YieldsFirst, item_count};
 ghost use Rattle.script.specs.Statements.{statements_from};
-ghost use Rattle.script.specs.View.{script, Counted, StatementTaken};
+ghost use Rattle.script.specs.View.{script, Moves, Counted, StatementTaken};
 ghost use Rattle.script.specs.Left.{left};
 
 use super::Reader;
@@ -12,8 +12,7 @@ impl<'a> Reader<'a> {
     // Past the lexemes before the next first word, which are counted on.
     fn count_rest(&mut self, mut tally: Tally) -> Tally
         requires { tally.tokens ≤ self.old.at }
-        ensures script { script self.new ≡ script self.old }
-        ensures counted { Counted (script self.old) self.old.at self.new.at tally result }
+        ensures { Moves (Counted tally) self.old self.new result }
     {
         while let Some(lexeme) = self.seek() {
             if lexeme.begins_statement() {
@@ -27,8 +26,7 @@ impl<'a> Reader<'a> {
 
     /// The next statement, passed; none where only blanks and comments are left.
     pub fn next_statement(&mut self) -> Option<Statement>
-        ensures script { script self.new ≡ script self.old }
-        ensures taken { StatementTaken (script self.old) self.old.at self.new.at result }
+        ensures { Moves StatementTaken self.old self.new result }
     {
         let first = self.next_lexeme()?;
         let kind = first.kind.statement_kind();
@@ -46,8 +44,10 @@ impl<'a> Reader<'a> {
     }
 
     /// The statements before it, one after the other.
+    #[tactic(auto, using(crate::proofs::Few::few_statements))]
     pub fn statements(self) -> Statements<'a>
-        ensures { left result ≡ statements_from (script self.entry) self.entry.at }
+        ensures value { left result ≡ statements_from (script self.entry) self.entry.at }
+        ensures few { length (left result) ≤ length (script self.entry) }
     {
         Statements { reader: self }
     }
