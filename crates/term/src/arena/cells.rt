@@ -52,6 +52,7 @@ impl Arena {
     }
 
     // One cell more, which `spend` has paid for: what it refers to is there, and there is room.
+    #[tactic(auto, using(crate::proofs::Trees::pushed))]
     pub(super) fn push(&mut self, cell: Cell) -> usize
         requires free { HasSpare self.old }
         requires fits { MayStandAt (cells_in self.old) cell }
@@ -123,6 +124,7 @@ impl Arena {
     }
 
     // Lets the cells from `mark` on go.
+    #[tactic(auto, using(crate::proofs::Trees::taken))]
     pub fn rewind(&mut self, mark: usize)
         ensures { Rewound self.old self.new mark }
     {
