@@ -1,5 +1,5 @@
 use Rattle.std.proofs.Common.{◌+◌, ◌*◌}
-use Rattle.normal.proofs.norm.+norm.Given as goal
+use Rattle.normal.proofs.site.Site.+norm.Given as goal
 
 abbrev pub decreases-app : goal.decreases-app
 decreases-app l = 4 * l.arena.now.left + 2
@@ -16,9 +16,6 @@ decreases-fill l = 4 * l.arena.now.left
 abbrev pub decreases-bind : goal.decreases-bind
 decreases-bind l = 4 * l.arena.now.left + 2
 
-abbrev pub decreases-first : goal.decreases-first
-decreases-first l = 4 * l.arena.now.left + 2
-
 abbrev pub decreases-fun : goal.decreases-fun
 decreases-fun l = 4 * l.arena.now.left + 2
 
@@ -28,8 +25,8 @@ decreases-norm l = 4 * l.arena.now.left
 abbrev pub decreases-one : goal.decreases-one
 decreases-one l = 4 * l.arena.now.left + 3
 
-abbrev pub decreases-second : goal.decreases-second
-decreases-second l = 4 * l.arena.now.left + 2
+abbrev pub decreases-projection : goal.decreases-projection
+decreases-projection l = 4 * l.arena.now.left + 2
 
 abbrev pub decreases-two : goal.decreases-two
 decreases-two l = 4 * l.arena.now.left + 3
@@ -53,13 +50,10 @@ abbrev pub decreases-deep : goal.decreases-deep
 decreases-deep l = 4 * l.arena.now.left
 
 abbrev pub decreases-choose : goal.decreases-choose
-decreases-choose l = 4 * l.arena.now.left + 3
+decreases-choose l = 4 * l.arena.now.left + 2
 
 abbrev pub decreases-pick : goal.decreases-pick
-decreases-pick l = 4 * l.arena.now.left + 2
-
-abbrev pub decreases-right : goal.decreases-right
-decreases-right l = 4 * l.arena.now.left + 1
+decreases-pick l = 4 * l.arena.now.left + 1
 
 abbrev pub decreases-arms : goal.decreases-arms
 decreases-arms l = 4 * l.arena.now.left
