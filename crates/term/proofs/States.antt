@@ -1,14 +1,10 @@
 -- What a read of a cell shows.
-use Rattle.std.proofs.Common.{◌≡◌, ℕ, ◌<◌, ◌≤◌, [], ◌∷◌, length, get_or, Some, None, vec_items, Option, sym, refl, ap, ◌∙◌, ap₂, arith}
+use Rattle.std.proofs.Common.{◌≡◌, ℕ, ◌<◌, ◌≤◌, length, get_or, Some, None, vec_items, Option, sym, refl, ap, ◌∙◌, arith}
 use Rattle.std.proofs.lemmas.List.{get_or_default, get_or_past}
-use Rattle.term.specs.declared.change.Change.{Change}
-use Rattle.term.specs.declared.change.Change.TheVariants.{Lift, Lower, Put, PutBoth}
 use Rattle.term.specs.declared.node.Cell.{Cell}
 use Rattle.term.specs.declared.arena.Arena.{Arena}
-use Rattle.term.specs.Term.{filled}
 use Rattle.term.specs.Cells.{root, over, bound, links, blank, tree, chain, tree_to, chain_to}
 use Rattle.term.specs.State.{cells_in, term, Kept, Holds, Found}
-use Rattle.term.specs.Walk.{changed, top}
 use Rattle.term.proofs.Trees.{tree_at, chain_at}
 
 pub read : (a : Arena) (i : ℕ) (c : Cell) → c ≡ get_or (vec_items a.pool) i c → i < cells_in a → Holds a i c
@@ -41,13 +37,6 @@ past a i h =
       is = t;
       links = ap (λ x. links x (tree xs) (chain_to i xs)) b;
     }
-
--- old terms that are put in stay as they were
-pub changed_kept : {a b : Arena} (x : Change) → Kept a b → top x ≤ cells_in a → changed b x ≡ changed a x
-changed_kept (Lift n) k h = refl
-changed_kept (Lower n) k h = refl
-changed_kept (Put v) k h = ap (λ t. filled (t ∷ [])) (k.trees v (omega arith))
-changed_kept (PutBoth v w) k h = ap₂ (λ t u. filled (t ∷ (u ∷ []))) (k.trees v (omega arith)) (k.trees w (omega arith))
 
 -- an empty context has no binder
 pub no_binder : (a : Arena) (k : ℕ) → Found a None k None

@@ -1,6 +1,8 @@
 //! One cell of the arena, and the forms of terms by how many parts they have.
-ghost use Rattle.std.specs.Prelude.{◌≡◌};
+ghost use Rattle.std.specs.Prelude.{◌≡◌, ℕ};
+ghost use Rattle.term.specs.Cells.{form};
 ghost use Rattle.term.specs.Forms.{binds, binds_last, code, code_two};
+ghost use Rattle.term.specs.Term.{Term, place};
 
 // The forms with one part.
 #[derive(Clone, Copy, PartialEq, Eq)]
@@ -59,6 +61,22 @@ pub enum Cell {
 pub struct Stored {
     pub kind: usize,
     pub value: Option<usize>,
+}
+
+impl Node {
+    // Where it stands in the script.
+    pub fn place(self) -> usize
+        ensures { (parts : ℕ → Term) → result ≡ place (form self parts) }
+    {
+        match self {
+            Node::Sort(place, _)
+            | Node::Local(place, _)
+            | Node::Entry(place, _)
+            | Node::One(place, _, _)
+            | Node::Two(place, _, _, _)
+            | Node::Match(place, _, _, _) => place,
+        }
+    }
 }
 
 impl Unary {

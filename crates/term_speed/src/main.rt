@@ -52,7 +52,7 @@ fn measure(rt: &HostRuntime, size: usize) -> anyhow::Result<()> {
     };
     let lifting = start.elapsed(rt)?.as_micros();
     let start = Instant::now(rt)?;
-    let Ok(put) = arena.put(sort, tree) else {
+    let Ok(put) = arena.put(&[sort], tree) else {
         return Err(anyhow!("too few cells"));
     };
     let putting = start.elapsed(rt)?.as_micros();

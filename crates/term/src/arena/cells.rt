@@ -2,6 +2,7 @@
 ghost use Rattle.std.specs.Prelude.{◌≡◌, ℕ, ◌+◌, ◌*◌, ◌^◌, ◌<◌, ◌≤◌};
 ghost use Rattle.term.specs.Cells.{form, reach, high, span, peak};
 ghost use Rattle.term.specs.State.{term, cells_in, Opened, Holds, Read, Spends, Pushes, Added, Built, Allots, Rewound};
+ghost use Rattle.term.specs.Term.{place};
 
 use crate::arena::Arena;
 use crate::faults::{Full, Spent, Unmade};
@@ -102,6 +103,13 @@ impl Arena {
             Cell::Part(node) => node,
             Cell::Under(_) => Node::Sort(0, 0),
         }
+    }
+
+    // The place of the tree at `id`.
+    pub fn place(&self, id: usize) -> usize
+        ensures { result ≡ place (term self.now id) }
+    {
+        self.at(id).place()
     }
 
     // How many cells may still be added.
