@@ -1,5 +1,5 @@
 //! The rules of normal forms, a function for each: what is left of the budget falls at each use.
-ghost use Rattle.std.specs.Prelude.{◌≡◌, ℕ, suc, ◌+◌, ◌-◌, ◌*◌, ◌^◌, ◌<◌, ◌≤◌, List, [], ◌∷◌};
+ghost use Rattle.std.specs.Prelude.{◌≡◌, ℕ, suc, ◌+◌, ◌-◌, ◌*◌, ◌^◌, ◌<◌, ◌≤◌, All, map};
 ghost use Rattle.term.specs.Cells.{form, reach, high, over};
 ghost use Rattle.term.specs.State.{term, cells_in};
 ghost use Rattle.rules.specs.Rules.{gives_local, gives_entry, gives_fun, gives_under, gives_beside, gives_wrap};
@@ -184,7 +184,7 @@ impl<'a> Site<'a> {
         ensures { Applies self.now (λ es p Δ. gives_use es p Δ (term arena.old f) (term arena.old v)) arena.old arena.new result }
     {
         match part(arena, Unary::Fun, f) {
-            Some(body) => self.fill(arena, v, body),
+            Some(body) => self.fill(arena, &[v], body),
             None => {
                 self.keep(arena, f)?;
                 Ok(arena.add(Node::Two(self.place, Binary::App, f, v)))
@@ -192,16 +192,15 @@ impl<'a> Site<'a> {
         }
     }
 
-    // The form put into a body, and its form.
+    // Forms put into a body, and its form.
     #[cycle(norm)]
-    fn fill(&self, arena: &mut Arena, v: usize, b: usize) -> Result<usize, Halt>
+    fn fill(&self, arena: &mut Arena, args: &[usize], b: usize) -> Result<usize, Halt>
         requires here { Within self.now arena.old }
-        requires v { v < cells_in arena.old }
-        requires b { b < cells_in arena.old }
+        requires args { All (λ i. i < cells_in arena.old) args.now }
         requires paid { Paid arena.old }
-        ensures { Applies self.now (λ es p Δ. gives_filled p Δ (term arena.old v ∷ []) (term arena.old b)) arena.old arena.new result }
+        ensures { Applies self.now (λ es p Δ. gives_filled p Δ (map (term arena.old) args.now) (term arena.old b)) arena.old arena.new result }
     {
-        let filled = arena.put(v, b)?;
+        let filled = arena.put(args, b)?;
         self.norm(arena, filled)
     }
 
@@ -215,7 +214,7 @@ impl<'a> Site<'a> {
         ensures { Applies self.now (λ es p Δ. gives_let p Δ (term arena.old a) (term arena.old b)) arena.old arena.new result }
     {
         let value = self.norm(arena, a)?;
-        self.fill(arena, value, b)
+        self.fill(arena, &[value], b)
     }
 
     // A part of a pair.
@@ -259,26 +258,12 @@ impl<'a> Site<'a> {
         ensures { Applies self.now (λ es p Δ. gives_open es p Δ (term arena.old v) (term arena.old b)) arena.old arena.new result }
     {
         match parts(arena, Binary::Pack, v) {
-            Some((first, second)) => self.fill_both(arena, second, first, b),
+            Some((first, second)) => self.fill(arena, &[second, first], b),
             None => {
                 self.keep(arena, v)?;
                 self.deep(arena, v, b)
             }
         }
-    }
-
-    // Two forms put into a body, and its form.
-    #[cycle(norm)]
-    fn fill_both(&self, arena: &mut Arena, v: usize, w: usize, b: usize) -> Result<usize, Halt>
-        requires here { Within self.now arena.old }
-        requires v { v < cells_in arena.old }
-        requires w { w < cells_in arena.old }
-        requires b { b < cells_in arena.old }
-        requires paid { Paid arena.old }
-        ensures { Applies self.now (λ es p Δ. gives_filled p Δ (term arena.old v ∷ (term arena.old w ∷ [])) (term arena.old b)) arena.old arena.new result }
-    {
-        let filled = arena.put_both(v, w, b)?;
-        self.norm(arena, filled)
     }
 
     // A neutral unpacked: the body's form under two binders.
@@ -321,8 +306,8 @@ impl<'a> Site<'a> {
         ensures { Applies self.now (λ es p Δ. gives_pick es p Δ (term arena.old v) (term arena.old f) (term arena.old g)) arena.old arena.new result }
     {
         match (part(arena, Unary::Inl, v), part(arena, Unary::Inr, v)) {
-            (Some(left), _) => self.fill(arena, left, f),
-            (None, Some(right)) => self.fill(arena, right, g),
+            (Some(left), _) => self.fill(arena, &[left], f),
+            (None, Some(right)) => self.fill(arena, &[right], g),
             (None, None) => {
                 self.keep(arena, v)?;
                 self.arms(arena, v, f, g)

@@ -106,17 +106,6 @@ fill-norm-requires t c =
 pub fill-returns : goal.fill-returns
 fill-returns t c = let q = c.in_ok-filled.ensures in pays q (last (filled_later c.in_ok-filled.filled q.kept c.requires.here q.made.1 c.norm.ensures))
 
-pub fill_both-returns-in_err-filled : goal.fill_both-returns-in_err-filled
-fill_both-returns-in_err-filled t c = lacks c.from_residual.ensures.1 c.in_err-filled.ensures
-
-pub fill_both-norm-requires : goal.fill_both-norm-requires
-fill_both-norm-requires t c =
-    let q = c.in_ok-filled.ensures in
-    (omega (arith, cells_pos, q.made.2), (within_kept q.kept c.requires.here, q.made.0))
-
-pub fill_both-returns : goal.fill_both-returns
-fill_both-returns t c = let q = c.in_ok-filled.ensures in pays q (last (filled_later c.in_ok-filled.filled q.kept c.requires.here q.made.1 c.norm.ensures))
-
 pub bind-returns-in_err-value : goal.bind-returns-in_err-value
 bind-returns-in_err-value t c = halt c.from_residual.ensures.1 c.in_err-value.ensures
 

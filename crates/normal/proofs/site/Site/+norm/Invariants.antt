@@ -43,9 +43,6 @@ decreases-unpack l = 4 * l.arena.now.left + 2
 abbrev pub decreases-open : goal.decreases-open
 decreases-open l = 4 * l.arena.now.left + 1
 
-abbrev pub decreases-fill_both : goal.decreases-fill_both
-decreases-fill_both l = 4 * l.arena.now.left
-
 abbrev pub decreases-deep : goal.decreases-deep
 decreases-deep l = 4 * l.arena.now.left
 
