@@ -1,5 +1,5 @@
 use Rattle.std.proofs.Common.{◌+◌, ◌*◌}
-use Rattle.kernel.proofs.typing.+typing.Given as goal
+use Rattle.kernel.proofs.typing.Typing.+typing.Given as goal
 
 abbrev pub decreases-app : goal.decreases-app
 decreases-app g l = 8 * l.arena.now.left + 2
@@ -40,9 +40,6 @@ decreases-infer g l = 8 * l.arena.now.left
 abbrev pub decreases-lambda : goal.decreases-lambda
 decreases-lambda g l = 8 * l.arena.now.left + 2
 
-abbrev pub decreases-left : goal.decreases-left
-decreases-left g l = 8 * l.arena.now.left + 2
-
 abbrev pub decreases-meet_one : goal.decreases-meet_one
 decreases-meet_one g l = 8 * l.arena.now.left + 5
 
@@ -58,8 +55,8 @@ decreases-open g l = 8 * l.arena.now.left + 2
 abbrev pub decreases-pair : goal.decreases-pair
 decreases-pair g l = 8 * l.arena.now.left + 2
 
-abbrev pub decreases-right : goal.decreases-right
-decreases-right g l = 8 * l.arena.now.left + 2
+abbrev pub decreases-injection : goal.decreases-injection
+decreases-injection g l = 8 * l.arena.now.left + 2
 
 abbrev pub decreases-second : goal.decreases-second
 decreases-second g l = 8 * l.arena.now.left + 2
