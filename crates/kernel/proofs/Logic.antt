@@ -1,22 +1,27 @@
 -- How what a call has shown is put together from what its calls have shown.
-use Rattle.std.proofs.Common.{◌≡◌, ℕ, suc, ◌+◌, ◌<◌, ◌≤◌, Bool, true, false, List, [], ◌∷◌, IsErrAnd, IfOk, Some, None, Ok, Err, MatchBool, Option, Result, sym, refl, ap, ◌∙◌, subst, ap₂, arith}
+use Rattle.std.proofs.Common.{◌≡◌, ℕ, suc, ◌+◌, ◌<◌, ◌≤◌, ◌⊎◌, inl, inr, Bool, true, false, List, [], ◌∷◌, IsErrAnd, IfOk, Some, None, Ok, Err, MatchBool, Option, Result, ok_or, sym, refl, ap, ◌∙◌, subst, ap₂, arith}
 use Rattle.term.specs.declared.arena.Arena.{Arena}
 use Rattle.term.specs.declared.faults.Spent as faults
 use Rattle.term.specs.declared.node.Node.{Node}
-use Rattle.term.specs.declared.node.Stored.{Stored}
+use Rattle.term.specs.declared.node.Node.TheVariants.{Sort, Local, Match}
+use Rattle.term.specs.declared.node.Node.TheVariants as node
+use Rattle.term.specs.declared.node.Binary.{Binary}
 use Rattle.term.specs.declared.node.Unary.TheVariants.{Fun, Fst, Snd, Inl, Inr}
 use Rattle.term.specs.declared.node.Binary.TheVariants.{Pi, Sigma, Exists, Typed, App, Pair, Pack, Unpack, Sum, Ascribe, Let}
 use Rattle.term.specs.Term.{Term, sort, local, entry, unary, binary, choice, bare, cells, lower, put, place}
-use Rattle.term.specs.Cells.{Bound, form, over, typed}
-use Rattle.term.specs.State.{cells_in, term, ctx, Kept, Spends, Added, Built, Entered, Lowered}
+use Rattle.term.specs.Cells.{Bound, bindings, form, typed}
+use Rattle.term.specs.State.{cells_in, term, Kept, Spends, Added, Built, Lowered}
 use Rattle.term.proofs.States.{still, on_to}
 use Rattle.rules.specs.declared.refusal.Reason.{Reason}
 use Rattle.rules.specs.declared.refusal.Reason.TheVariants.{NoRule, OtherForm, Unequal, Escapes, NoSort}
-use Rattle.rules.specs.Rules.{Judgement, has, meets, gives, Question, Entry, Premises, refuse, pay, ask, premise, same, gets, on, expect, lifting, lowering, rule, has_rule, meets_rule}
+use Rattle.rules.specs.Rules.{Judgement, has, meets, gives, Question, Entry, Premises, refuse, pay, ask, premise, same, gets, on, expect, parts, lifting, lowering, rule, has_rule, meets_rule, meets_equal}
 use Rattle.rules.specs.Derivation.{System, Spot, spot, refusal}
 use Rattle.normal.specs.declared.halt.Halt.{Halt}
 use Rattle.normal.specs.declared.halt.Halt.TheVariants as jam
-use Rattle.normal.specs.Views.{rows, top}
+use Rattle.normal.specs.declared.look.Side.{Side}
+use Rattle.normal.specs.declared.look.Side.TheVariants.{First, Second}
+use Rattle.normal.specs.declared.site.Site.{Site}
+use Rattle.normal.specs.Views.{rows, both, over_both, chosen, entries_at, context_at, Within, Enters}
 use Rattle.normal.specs.Runs.{Outcome, halted, Ends, Goes}
 use Rattle.normal.specs.Runs as n
 use Rattle.normal.proofs.Views.{rows_kept}
@@ -24,7 +29,7 @@ use Rattle.normal.proofs.Steps as steps
 use Rattle.kernel.specs.declared.fault.Fault.{Fault}
 use Rattle.kernel.specs.declared.fault.Fault.TheVariants.{Spent, Refused}
 use Rattle.kernel.specs.Faults.{typing, passed, faulted}
-use Rattle.kernel.specs.Runs.{outcome, Judges, Ran, Leading, Leads, pair, tips, Lowering, unruled as unruled_at}
+use Rattle.kernel.specs.Runs.{outcome, Judges, Ran, Leading, Leads, Begins, pair, tips, sorted, none as none_of, unruled as unruled_at, meets_side}
 
 err_within : {A E : Type 0} (Q : E → Type 0) (P : A → Type 0) (r : Result A E) → IsErrAnd r Q → IfOk r P
 err_within Q P (Ok a) q = elim q [ ]
@@ -127,16 +132,16 @@ module _ {S : System} {R : List Entry} {w : Spot} where
   }
 
   -- a step under a binder
-  pub enters : {Γ : List Bound} {c : Premises} {x y z : Arena} {i : ℕ} {r : Result ℕ Fault} → Entered x y Γ (Ok i) → Ran S R w c y z r → Ran S R w (pay 1 c) x z r
+  pub enters : {s t : Site} {B : Bound} {c : Premises} {x y z : Arena} {r : Result ℕ Fault} → Enters s B x y (Ok t) → Ran S R w c y z r → Ran S R w (pay 1 c) x z r
   enters b d = record {
     kept = on_to b.kept d.kept;
     fair = omega (arith, b.fair, d.fair);
-    falls = omega (arith, b.made.2, d.falls);
+    falls = omega (arith, b.made.1, d.falls);
     within = d.within;
-    went = steps.pays (omega (arith, b.made.2)) d.went;
+    went = steps.pays (omega (arith, b.made.1)) d.went;
   }
 
-  pub barred : {Γ : List Bound} {c : Premises} {x y : Arena} {f : faults.Spent} {r : Result ℕ Fault} → IsErrAnd r (λ e. e ≡ Spent) → Entered x y Γ (Err f) → Ran S R w (pay 1 c) x y r
+  pub barred : {s : Site} {B : Bound} {c : Premises} {x y : Arena} {f : faults.Spent} {r : Result ℕ Fault} → IsErrAnd r (λ e. e ≡ Spent) → Enters s B x y (Err f) → Ran S R w (pay 1 c) x y r
   barred q b = out b.kept b.fair (omega (arith, b.made)) q
 
   -- a traversal with its cost
@@ -153,23 +158,23 @@ module _ {S : System} {R : List Entry} {w : Spot} where
   lacks q b = out b.kept b.fair b.made q
 
   -- a step under a binder, before first premises
-  pub enters_lead : {B Y : Type 0} {D : (Y → Premises) → Premises} {u : B → Y} {top : B → ℕ} {Γ : List Bound} {x y z : Arena} {i : ℕ} {r : Result B Fault} → Entered x y Γ (Ok i) → Leads S R w D u top y z r → Leads S R w (λ k. pay 1 (D k)) u top x z r
+  pub enters_lead : {B Y : Type 0} {D : (Y → Premises) → Premises} {u : B → Y} {top : B → ℕ} {s t : Site} {b : Bound} {x y z : Arena} {r : Result B Fault} → Enters s b x y (Ok t) → Leads S R w D u top y z r → Leads S R w (λ k. pay 1 (D k)) u top x z r
   enters_lead {r = Ok j} b d = record {
     kept = on_to b.kept d.kept;
     fair = omega (arith, b.fair, d.fair);
-    falls = omega (arith, b.made.2, d.falls);
+    falls = omega (arith, b.made.1, d.falls);
     within = d.within;
-    went = λ k o e h. steps.pays (omega (arith, b.made.2)) (d.went k o e h);
+    went = λ k o e h. steps.pays (omega (arith, b.made.1)) (d.went k o e h);
   }
   enters_lead {r = Err f} b d = record {
     kept = on_to b.kept d.kept;
     fair = omega (arith, b.fair, d.fair);
-    falls = omega (arith, b.made.2, d.falls);
+    falls = omega (arith, b.made.1, d.falls);
     within = tt;
-    went = λ k. steps.pays (omega (arith, b.made.2)) (d.went k);
+    went = λ k. steps.pays (omega (arith, b.made.1)) (d.went k);
   }
 
-  pub barred_lead : {B Y : Type 0} (D : (Y → Premises) → Premises) {u : B → Y} {top : B → ℕ} {Γ : List Bound} {x y : Arena} {f : faults.Spent} {r : Result B Fault} → IsErrAnd r (λ e. e ≡ Spent) → Entered x y Γ (Err f) → Leads S R w (λ k. pay 1 (D k)) u top x y r
+  pub barred_lead : {B Y : Type 0} (D : (Y → Premises) → Premises) {u : B → Y} {top : B → ℕ} {s : Site} {b : Bound} {x y : Arena} {f : faults.Spent} {r : Result B Fault} → IsErrAnd r (λ e. e ≡ Spent) → Enters s b x y (Err f) → Leads S R w (λ k. pay 1 (D k)) u top x y r
   barred_lead D {u = u} {top = top} {y = y} {r = r} q b = record {
     kept = b.kept;
     fair = b.fair;
@@ -185,11 +190,14 @@ module _ {S : System} {R : List Entry} {w : Spot} where
   pub missing : {A X : Type 0} {m : Option X} {v : A → X} {tip : A → ℕ} {x : Arena} {f : Fault} → m ≡ None → f ≡ Refused (refusal OtherForm w) → Leads S R w (expect m) v tip x x (Err f)
   missing {x = x} e q = record { kept = still x; fair = omega arith; falls = omega arith; within = tt; went = λ k. rw (e, q) (steps.refuses refl) }
 
-  pub given_parts : {m : Option (Term × Term)} {x : Arena} {i : ℕ × ℕ} → m ≡ Some (pair x i) → tips i ≤ cells_in x → Leads S R w (expect m) (pair x) tips x x (Ok i)
-  given_parts e l = given e l
+  -- the parts, or the sort, that `ok_or` finds
+  pub parts_or : (b : Binary) (t : Term) {x : Arena} {f : Fault} (o : Option (ℕ × ℕ)) → parts b t ≡ both x o → over_both o ≤ cells_in x → f ≡ Refused (refusal OtherForm w) → Leads S R w (expect (parts b t)) (pair x) tips x x (ok_or o f)
+  parts_or b t None e l q = missing e q
+  parts_or b t (Some i) e l q = given e l
 
-  pub missing_parts : {m : Option (Term × Term)} {x : Arena} {f : Fault} → m ≡ None → f ≡ Refused (refusal OtherForm w) → Leads S R w (expect m) (pair x) tips x x (Err f)
-  missing_parts e q = missing e q
+  pub sort_or : {m : Option ℕ} {x : Arena} {f : Fault} (o : Option ℕ) → o ≡ m → f ≡ Refused (refusal OtherForm w) → Leads S R w (expect m) sorted none_of x x (ok_or o f)
+  sort_or None e q = missing (sym e) q
+  sort_or (Some i) e q = given (sym e) (omega arith)
 
   -- the conclusion stands there
   pub concluded : {T : Term} {x : Arena} {i : ℕ} → T ≡ term x i → i < cells_in x → Ran S R w (gets T) x x (Ok i)
@@ -200,6 +208,10 @@ module _ {S : System} {R : List Entry} {w : Spot} where
     within = l;
     went = subst (λ u. Goes S R w (gets u) (Outcome.done (term x i) None) x.left x.left) (sym e) (steps.concluded refl);
   }
+
+  -- it still stands there
+  pub stays_there : {x y : Arena} {i : ℕ} → Kept x y → i < cells_in x → Ran S R w (gets (term x i)) y y (Ok i)
+  stays_there k l = concluded (sym (k.trees _ l)) (omega (arith, k.long, l))
 
   -- it stands in the cell that the use of the rule has paid for
   pub stored : {c : Node} {T : Term} {x y : Arena} {i : ℕ} → form c (term x) ≡ T → Added x y c i → Ran S R w (gets T) x y (Ok i)
@@ -224,11 +236,17 @@ module _ {S : System} {R : List Entry} {w : Spot} where
   pub refused : {c : Reason} {x : Arena} {f : Fault} → f ≡ Refused (refusal c w) → Ran S R w (refuse c) x x (Err f)
   refused {x = x} q = record { kept = still x; fair = omega arith; falls = omega arith; within = tt; went = rw q (steps.refuses refl) }
 
+  -- the same where `?` has passed it on
+  pub refused_out : {c : Reason} {x : Arena} {f : Fault} {r : Result ℕ Fault} → IsErrAnd r (λ e. e ≡ f) → f ≡ Refused (refusal c w) → Ran S R w (refuse c) x x r
+  refused_out {r = Ok i} q e = elim q [ ]
+  refused_out {r = Err g} q e = refused (q ∙ e)
+
   pub answered : {q : Question} {k : ℕ → Premises} {s : ℕ} {x z : Arena} {r : Result ℕ Fault} → S q ≡ Some s → Ran S R w (k s) x z r → Ran S R w (ask q k) x z r
   answered e d = record { kept = d.kept; fair = d.fair; falls = d.falls; within = d.within; went = steps.told e d.went }
 
-  pub unanswered : {q : Question} {k : ℕ → Premises} {x : Arena} {f : Fault} → S q ≡ None → f ≡ Refused (refusal NoSort w) → Ran S R w (ask q k) x x (Err f)
-  unanswered {x = x} e q = record { kept = still x; fair = omega arith; falls = omega arith; within = tt; went = rw q (steps.untold e refl) }
+  pub unanswered : {q : Question} {k : ℕ → Premises} {x : Arena} {f : Fault} {r : Result ℕ Fault} → S q ≡ None → IsErrAnd r (λ e. e ≡ f) → f ≡ Refused (refusal NoSort w) → Ran S R w (ask q k) x x r
+  unanswered {r = Ok i} e p q = elim p [ ]
+  unanswered {x = x} {r = Err g} e p q = record { kept = still x; fair = omega arith; falls = omega arith; within = tt; went = rw (p, q) (steps.untold e refl) }
 
   pub alike : {t u : Term} {c : Premises} {x z : Arena} {r : Result ℕ Fault} → bare t ≡ bare u → Ran S R w c x z r → Ran S R w (same t u c) x z r
   alike e d = record { kept = d.kept; fair = d.fair; falls = d.falls; within = d.within; went = steps.alike e d.went }
@@ -247,80 +265,94 @@ module _ {S : System} {R : List Entry} {w : Spot} where
   pub only : {c d : Premises} {x z : Arena} {r : Result ℕ Fault} → ◌≡◌ {A = Option Premises} (Some d) (Some c) → Ran S R w d x z r → Ran S R w c x z r
   only {c} {d} {x} {z} {r} q h = subst (λ a. Ran S R w a x z r) (let e : d ≡ c = cc in e) h
 
--- what was said of later entries, contexts and terms, said of earlier ones that are the same
-module _ {S : System} {w : Spot} {A X : Type 0} {v : A → X} {tip : A → ℕ} {z : Arena} {r : Result A Fault} where
-  pub like : {R R' : List Entry} {C C' : (X → Premises) → Premises} {x : Arena} → R' ≡ R → C' ≡ C → Leads S R' w C' v tip x z r → Leads S R w C v tip x z r
-  like a b d = rw (← a, ← b) d
+-- what `ok_or` says where there is nothing
+pub unfound : {A : Type 0} {o : Option A} {e f : Fault} → o ≡ None → ◌≡◌ {A = Result A Fault} (Err e) (ok_or o f) → e ≡ f
+unfound {A} {o} {e} {f} p q = let h : ◌≡◌ {A = Result A Fault} (Err e) (Err f) = q ∙ ap (λ m. ok_or m f) p in cc
 
-  -- of a context and a term
-  pub again : {x y : Arena} (F : List Bound → Term → (X → Premises) → Premises) (es : List Stored) (o : Option ℕ) (i : ℕ) → Kept x y → top es ≤ cells_in x → over o ≤ cells_in x → i < cells_in x → Leads S (rows y es) w (F (ctx y o) (term y i)) v tip y z r → Leads S (rows x es) w (F (ctx x o) (term x i)) v tip y z r
-  again F es o i k h1 h2 h3 d = like (rows_kept es k h1) (ap₂ F (k.chains o h2) (k.trees i h3)) d
+-- t is s under the binders of Γ, in the same system
+pub record Nested (S S' : System) (s t : Site) (y : Arena) (Γ : List Bound) : Type 0 where
+  pub system : S' ≡ S
+  pub entries : t.entries ≡ s.entries
+  pub place : t.place ≡ s.place
+  pub context : context_at t y ≡ Γ
 
-  -- of a context, a term, and a term that was made in between
-  pub again_with : {x u y : Arena} (F : List Bound → Term → Term → (X → Premises) → Premises) (es : List Stored) (o : Option ℕ) (i q : ℕ) → Kept x y → top es ≤ cells_in x → over o ≤ cells_in x → i < cells_in x → Kept u y → q < cells_in u → Leads S (rows y es) w (F (ctx y o) (term y i) (term y q)) v tip y z r → Leads S (rows x es) w (F (ctx x o) (term x i) (term u q)) v tip y z r
-  again_with {x} {u} {y} F es o i q k h1 h2 h3 l h4 d = like (rows_kept es k h1) (ap₂ (λ Γ E. F Γ E (term y q)) (k.chains o h2) (k.trees i h3) ∙ ap (F (ctx x o) (term x i)) (l.trees q h4)) d
+pub nested : {S S' : System} {s t : Site} {B : Bound} {x y : Arena} → S' ≡ S → Enters s B x y (Ok t) → Nested S S' s t y (B ∷ context_at s x)
+nested q e = let t = e.made.0 in record { system = q; entries = t.entries; place = t.place; context = t.context }
 
-  -- of a context, and a term that was made in between
-  pub context_with : {x u y : Arena} (F : List Bound → Term → (X → Premises) → Premises) (es : List Stored) (o : Option ℕ) (q : ℕ) → Kept x y → top es ≤ cells_in x → over o ≤ cells_in x → Kept u y → q < cells_in u → Leads S (rows y es) w (F (ctx y o) (term y q)) v tip y z r → Leads S (rows x es) w (F (ctx x o) (term u q)) v tip y z r
-  context_with F es o q k h1 h2 l h3 d = like (rows_kept es k h1) (ap₂ F (k.chains o h2) (l.trees q h3)) d
+pub nested_twice : {S S' T : System} {s t u : Site} {B : Bound} {Γ : List Bound} {x y : Arena} → T ≡ S' → Nested S S' s t x Γ → Enters t B x y (Ok u) → Nested S T s u y (B ∷ Γ)
+nested_twice {B = B} q n e =
+    let t = e.made.0 in
+    record { system = q ∙ n.system; entries = t.entries ∙ n.entries; place = t.place ∙ n.place; context = t.context ∙ ap (λ Γ. B ∷ Γ) n.context }
 
-  -- of a term alone
-  pub later : {x u y : Arena} (F : Term → (X → Premises) → Premises) (es : List Stored) (q : ℕ) → Kept x y → top es ≤ cells_in x → Kept u y → q < cells_in u → Leads S (rows y es) w (F (term y q)) v tip y z r → Leads S (rows x es) w (F (term u q)) v tip y z r
-  later F es q k h1 l h2 d = like (rows_kept es k h1) (ap F (l.trees q h2)) d
-
-  -- of a context that is known
-  pub placed : {x u : Arena} (F : List Bound → Term → (X → Premises) → Premises) {Γ : List Bound} (es : List Stored) (o : Option ℕ) (i : ℕ) → Kept x u → top es ≤ cells_in x → i < cells_in x → ctx u o ≡ Γ → Leads S (rows u es) w (F (ctx u o) (term u i)) v tip u z r → Leads S (rows x es) w (F Γ (term x i)) v tip u z r
-  placed F es o i k h1 h2 e d = like (rows_kept es k h1) (ap₂ F e (k.trees i h2)) d
-
-  -- of entries alone
-  pub entries : {x y : Arena} {C : (X → Premises) → Premises} (es : List Stored) → Kept x y → top es ≤ cells_in x → Leads S (rows y es) w C v tip y z r → Leads S (rows x es) w C v tip y z r
-  entries es k h d = like (rows_kept es k h) refl d
-
--- the context of a binder that was stepped under
-pub outside : {y u : Arena} {b : Bound} {Γ Γ' : List Bound} {j : ℕ} → Entered y u (b ∷ Γ) (Ok j) → Γ ≡ Γ' → ctx u (Some j) ≡ b ∷ Γ'
-outside {b = b} e q = e.made.1 ∙ ap (λ Δ. b ∷ Δ) q
+-- the context under a binder that was stepped under later
+pub outside : {s : Site} {B B' : Bound} {x y : Arena} → B ≡ B' → Kept x y → Within s x → ◌≡◌ {A = List Bound} (B ∷ context_at s y) (B' ∷ context_at s x)
+outside {s = s} e k h = ap₂ (λ b Γ. b ∷ Γ) e (k.chains s.context h.ctx)
 
 pub bound_of : {P P' : Term} (v : Option Term) → P ≡ P' → ◌≡◌ {A = Bound} (record { type = P; value = v }) (record { type = P'; value = v })
 bound_of v e = ap (λ P. record { type = P; value = v }) e
 
+module _ {A X : Type 0} {v : A → X} {tip : A → ℕ} {z : Arena} {r : Result A Fault} where
+  -- what was said of entries and premises that are the same
+  pub like : {S : System} {R R' : List Entry} {w : Spot} {C C' : (X → Premises) → Premises} {x : Arena} → R' ≡ R → C' ≡ C → Leads S R' w C' v tip x z r → Leads S R w C v tip x z r
+  like a b d = rw (← a, ← b) d
+
+  -- what was said later, of premises that are the same
+  pub earlier : {S : System} {s : Site} {w : Spot} {C C' : (X → Premises) → Premises} {x y : Arena} → Kept x y → Within s x → C' ≡ C → Leads S (entries_at s y) w C' v tip y z r → Leads S (entries_at s x) w C v tip y z r
+  earlier {s = s} k h e d = like (rows_kept s.entries.now k h.rows) e d
+
+  -- of a context, and of what was there earlier
+  pub again : {Y : Type 0} {S : System} {s : Site} {w : Spot} {E E' : Y} {x y : Arena} (F : List Bound → Y → (X → Premises) → Premises) → E' ≡ E → Kept x y → Within s x → Leads S (entries_at s y) w (F (context_at s y) E') v tip y z r → Leads S (entries_at s x) w (F (context_at s x) E) v tip y z r
+  again {s = s} F e k h d = earlier k h (ap₂ F (k.chains s.context h.ctx) e) d
+
+  -- said under binders
+  beneath : {S S' : System} {s t : Site} {Γ : List Bound} {y : Arena} (C : List Bound → (X → Premises) → Premises) → Nested S S' s t y Γ → Begins S' t C v tip y z r → Leads S (entries_at s y) (typing s.place) (C Γ) v tip y z r
+  beneath {y = y} C n d = rw (← n.system, ← n.place, ← ap (λ es. rows y es.now) n.entries, ← n.context) d
+
+  pub inner : {Y : Type 0} {S S' : System} {s t : Site} {Γ Γ' : List Bound} {E E' : Y} {x u : Arena} (F : List Bound → Y → (X → Premises) → Premises) → Nested S S' s t u Γ' → Γ' ≡ Γ → E' ≡ E → Kept x u → Within s x → Begins S' t (λ Δ. F Δ E') v tip u z r → Leads S (entries_at s x) (typing s.place) (F Γ E) v tip u z r
+  inner {E' = E'} F n q e k h d = earlier k h (ap₂ F q e) (beneath (λ Δ. F Δ E') n d)
+
+-- a normal form as a first premise, later
+pub form_again : {S : System} {s : Site} {w : Spot} {x y z : Arena} {j : ℕ} (i : ℕ) → Kept x y → Within s x → i < cells_in x → n.Normalises s (term y i) y z (Ok j) → Leads S (entries_at s x) w (premise (gives s.place (bindings (context_at s x)) (term x i))) (term z) suc y z (Ok j)
+form_again {s = s} i k h l d = again (λ Γ E. premise (gives s.place (bindings Γ) E)) (k.trees i l) k h (formed d)
+
+pub form_stopped : {S : System} {s : Site} {w : Spot} {x y z : Arena} {f : Halt} (i : ℕ) → Kept x y → Within s x → i < cells_in x → n.Normalises s (term y i) y z (Err f) → Leads {A = ℕ} S (entries_at s x) w (premise (gives s.place (bindings (context_at s x)) (term x i))) (term z) suc y z (Err (passed f))
+form_stopped {s = s} i k h l d = again (λ Γ E. premise (gives s.place (bindings Γ) E)) (k.trees i l) k h (unformed d)
+
+-- a normal form of what was put together
+pub form_filled : {S : System} {s : Site} {w : Spot} {t : Term} {x y z : Arena} {j : ℕ} (i : ℕ) → Kept x y → Within s x → term y i ≡ t → n.Normalises s (term y i) y z (Ok j) → Leads S (entries_at s x) w (premise (gives s.place (bindings (context_at s x)) t)) (term z) suc y z (Ok j)
+form_filled {s = s} i k h e d = again (λ Γ E. premise (gives s.place (bindings Γ) E)) e k h (formed d)
+
+pub fill_stopped : {S : System} {s : Site} {w : Spot} {t : Term} {x y z : Arena} {f : Halt} (i : ℕ) → Kept x y → Within s x → term y i ≡ t → n.Normalises s (term y i) y z (Err f) → Leads {A = ℕ} S (entries_at s x) w (premise (gives s.place (bindings (context_at s x)) t)) (term z) suc y z (Err (passed f))
+fill_stopped {s = s} i k h e d = again (λ Γ E. premise (gives s.place (bindings Γ) E)) e k h (unformed d)
+
 pub typed_as : {S : System} {R : List Entry} {w : Spot} {m m' : Option ℕ} {x z : Arena} {r : Result ℕ Fault} (n : ℕ) (a : Arena) → m ≡ m' → Ran S R w (lifting n (typed m' (term a)) gets) x z r → Ran S R w (lifting n (typed m (term a)) gets) x z r
 typed_as n a e d = rw e d
 
-pub rest : {S : System} {R R' : List Entry} {w : Spot} {c c' : Premises} {x z : Arena} {r : Result ℕ Fault} → R' ≡ R → c' ≡ c → Ran S R' w c' x z r → Ran S R w c x z r
-rest a b d = rw (← a, ← b) d
-
--- a lowering under any system
-pub lowers : {S : System} {R : List Entry} {p n : ℕ} {t : Term} {x y : Arena} {r : Result ℕ Fault} → Lowering x y p n t r → Leads S R (typing p) (lowering n t) (term y) suc x y r
-lowers {S} {R} {r = Ok i} d = record { kept = d.kept; fair = d.fair; falls = d.falls; within = d.within; went = d.went S R }
-lowers {S} {R} {r = Err f} d = record { kept = d.kept; fair = d.fair; falls = d.falls; within = tt; went = d.went S R }
-
 -- how a lowering ends
-pub lowered_to : {x y : Arena} {p n : ℕ} {t : Term} {i : ℕ} → Lowered x y (lower n 0 t) (Ok (Some i)) → Lowering x y p n t (Ok i)
-lowered_to d = record {
-  kept = d.kept;
-  fair = d.fair;
-  falls = omega (arith, d.made.2);
-  within = d.made.0;
-  went = λ S es k o e h. rw d.made.1 (steps.pays (omega (arith, d.made.2)) h);
-}
-
-pub escapes : {x y : Arena} {p n : ℕ} {t : Term} {f : Fault} → f ≡ Refused (refusal Escapes (typing p)) → Lowered x y (lower n 0 t) (Ok None) → Lowering x y p n t (Err f)
-escapes q d = record {
+pub lower_or : {S : System} {R : List Entry} {w : Spot} (n : ℕ) (t : Term) {x y : Arena} {f : Fault} (o : Option ℕ) → f ≡ Refused (refusal Escapes w) → Lowered x y (lower n 0 t) (Ok o) → Leads S R w (lowering n t) (term y) suc x y (ok_or o f)
+lower_or n t None q d = record {
   kept = d.kept;
   fair = d.fair;
   falls = omega (arith, d.made.1);
   within = tt;
-  went = λ S es k. rw (d.made.0, q) (steps.refuses (sym d.made.1));
+  went = λ k. rw (d.made.0, q) (steps.refuses (sym d.made.1));
+}
+lower_or n t (Some i) q d = record {
+  kept = d.kept;
+  fair = d.fair;
+  falls = omega (arith, d.made.2);
+  within = d.made.0;
+  went = λ k o e h. rw d.made.1 (steps.pays (omega (arith, d.made.2)) h);
 }
 
-pub lowered_short : {x y : Arena} {p n : ℕ} {t : Term} {f : faults.Spent} {r : Result ℕ Fault} → IsErrAnd r (λ e. e ≡ Spent) → Lowered x y (lower n 0 t) (Err f) → Lowering x y p n t r
-lowered_short {r = Ok i} q d = elim q [ ]
-lowered_short {x} {y} {r = Err g} q d = record {
+pub lowered_short : {S : System} {R : List Entry} {w : Spot} (n : ℕ) (t : Term) {x y : Arena} {f : faults.Spent} {r : Result ℕ Fault} → IsErrAnd r (λ e. e ≡ Spent) → Lowered x y (lower n 0 t) (Err f) → Leads S R w (lowering n t) (term y) suc x y r
+lowered_short n t {r = Ok i} q d = elim q [ ]
+lowered_short n t {r = Err g} q d = record {
   kept = d.kept;
   fair = d.fair;
   falls = omega (arith, d.fair, d.kept.long);
   within = tt;
-  went = λ S es k. rw (d.made.1, q) (steps.short d.made.2);
+  went = λ k. rw (d.made.1, q) (steps.short d.made.2);
 }
 
 -- the use of a rule is paid, and its premises were gone through
@@ -348,18 +380,9 @@ broke {S} {R} {j} {x = x} {y = y} {r = Err g} q e s = record {
 pub unruled : {S : System} {R : List Entry} {j : Judgement} {x : Arena} {f : Fault} → rule R j ≡ None → f ≡ Refused (refusal NoRule (spot j)) → Judges S R j x x (Err f)
 unruled {x = x} e q = record { kept = still x; fair = omega arith; falls = omega arith; within = tt; went = rw q (steps.unruled e refl) }
 
--- terms put in, as they were earlier
+-- a term put in, as it was earlier
 pub put_as : {x y : Arena} {A A' B B' : Term} {r : Result ℕ faults.Spent} → A ≡ A' → B ≡ B' → Built x y (cells (put (A ∷ []) 0 B)) (put (A ∷ []) 0 B) r → Built x y (cells (put (A' ∷ []) 0 B')) (put (A' ∷ []) 0 B') r
 put_as p q d = rw (← p, ← q) d
-
-module _ {S : System} {w : Spot} {A X : Type 0} {v : A → X} {tip : A → ℕ} {z : Arena} {r : Result A Fault} where
-  -- of a term that was made
-  pub filled : {x y : Arena} {t : Term} (F : List Bound → Term → (X → Premises) → Premises) (es : List Stored) (o : Option ℕ) (i : ℕ) → Kept x y → top es ≤ cells_in x → over o ≤ cells_in x → term y i ≡ t → Leads S (rows y es) w (F (ctx y o) (term y i)) v tip y z r → Leads S (rows x es) w (F (ctx x o) t) v tip y z r
-  filled F es o i k h1 h2 e d = like (rows_kept es k h1) (ap₂ F (k.chains o h2) e) d
-
-  -- of a context that is known, a term, and a term that was made in between
-  pub placed_with : {x u y : Arena} (F : List Bound → Term → Term → (X → Premises) → Premises) {Γ : List Bound} (es : List Stored) (o : Option ℕ) (i q : ℕ) → Kept x y → top es ≤ cells_in x → i < cells_in x → ctx y o ≡ Γ → Kept u y → q < cells_in u → Leads S (rows y es) w (F (ctx y o) (term y i) (term y q)) v tip y z r → Leads S (rows x es) w (F Γ (term x i) (term u q)) v tip y z r
-  placed_with {x} {u} {y} F {Γ} es o i q k h1 h2 e l h3 d = like (rows_kept es k h1) (ap₂ (λ Δ E. F Δ E (term y q)) e (k.trees i h2) ∙ ap (F Γ (term x i)) (l.trees q h3)) d
 
 known_has : (R : List Entry) (Γ : List Bound) (E : Term) → rule R (has Γ E) ≡ has_rule R Γ E
 unfolding rule
@@ -376,15 +399,15 @@ at_place : {S : System} {R : List Entry} {p q : ℕ} {c : Premises} {x z : Arena
 at_place e d = rw e d
 
 -- the use of a rule is paid, and its premises were gone through: for a term at p
-pub has_ruled : {S : System} {c : Premises} {p : ℕ} {u : Unit {0}} {x y z : Arena} {r : Result ℕ Fault} (es : List Stored) (o : Option ℕ) (i : ℕ) → Spends x y 1 (Ok u) → top es ≤ cells_in x → over o ≤ cells_in x → i < cells_in x → place (term y i) ≡ p → has_rule (rows y es) (ctx y o) (term y i) ≡ Some c → Ran S (rows y es) (typing p) c y z r → Judges S (rows x es) (has (ctx x o) (term x i)) x z r
-has_ruled {y = y} es o i s h1 h2 h3 e q d =
-    judged_as (rows_kept es s.kept h1) (ap₂ has (s.kept.chains o h2) (s.kept.trees i h3))
-    (ruled s (known_has (rows y es) (ctx y o) (term y i) ∙ q) (at_place e d))
+pub has_ruled : {S : System} {s : Site} {c : Premises} {p : ℕ} {u : Unit {0}} {x y z : Arena} {r : Result ℕ Fault} (i : ℕ) → Spends x y 1 (Ok u) → Within s x → i < cells_in x → place (term y i) ≡ p → has_rule (entries_at s y) (context_at s y) (term y i) ≡ Some c → Ran S (entries_at s y) (typing p) c y z r → Judges S (entries_at s x) (has (context_at s x) (term x i)) x z r
+has_ruled {s = s} {y = y} i m h l e q d =
+    judged_as (rows_kept s.entries.now m.kept h.rows) (ap₂ has (m.kept.chains s.context h.ctx) (m.kept.trees i l))
+    (ruled m (known_has (entries_at s y) (context_at s y) (term y i) ∙ q) (at_place e d))
 
-pub meets_ruled : {S : System} {c : Premises} {p : ℕ} {u : Unit {0}} {x y z : Arena} {r : Result ℕ Fault} (es : List Stored) (o : Option ℕ) (i t : ℕ) → Spends x y 1 (Ok u) → top es ≤ cells_in x → over o ≤ cells_in x → i < cells_in x → t < cells_in x → place (term y i) ≡ p → meets_rule (ctx y o) (term y i) (term y t) ≡ c → Ran S (rows y es) (typing p) c y z r → Judges S (rows x es) (meets (ctx x o) (term x i) (term x t)) x z r
-meets_ruled {x = x} {y = y} es o i t s h1 h2 h3 h4 e q d =
-    judged_as (rows_kept es s.kept h1) (ap₂ (λ Γ E. meets Γ E (term y t)) (s.kept.chains o h2) (s.kept.trees i h3) ∙ ap (meets (ctx x o) (term x i)) (s.kept.trees t h4))
-    (ruled s (known_meets (rows y es) (ctx y o) (term y i) (term y t) ∙ ap Some q) (at_place e d))
+pub meets_ruled : {S : System} {s : Site} {c : Premises} {p : ℕ} {u : Unit {0}} {x y z : Arena} {r : Result ℕ Fault} (i t : ℕ) → Spends x y 1 (Ok u) → Within s x → i < cells_in x → t < cells_in x → place (term y i) ≡ p → meets_rule (context_at s y) (term y i) (term y t) ≡ c → Ran S (entries_at s y) (typing p) c y z r → Judges S (entries_at s x) (meets (context_at s x) (term x i) (term x t)) x z r
+meets_ruled {s = s} {x = x} {y = y} i t m h l n e q d =
+    judged_as (rows_kept s.entries.now m.kept h.rows) (ap₂ (λ Γ E. meets Γ E (term y t)) (m.kept.chains s.context h.ctx) (m.kept.trees i l) ∙ ap (meets (context_at s x) (term x i)) (m.kept.trees t n))
+    (ruled m (known_meets (entries_at s y) (context_at s y) (term y i) (term y t) ∙ ap Some q) (at_place e d))
 
 -- it cannot be paid
 pub has_broke : {S : System} {R : List Entry} {Γ : List Bound} {E : Term} {c : Premises} {f : faults.Spent} {x y : Arena} {r : Result ℕ Fault} → IsErrAnd r (λ e. e ≡ Spent) → has_rule R Γ E ≡ Some c → Spends x y 1 (Err f) → Judges S R (has Γ E) x y r
@@ -402,6 +425,10 @@ some_of e = cc
 
 pub not_some : {A B : Type 0} {x : A} → ◌≡◌ {A = Option A} None (Some x) → B
 not_some e = absurd (let z : ◌≡◌ {A = ℕ} 0 1 = cc in omega arith)
+
+pub nothing : {A : Type 0} (o : Option A) → ((x : A) → o ≡ Some x → ⊥) → o ≡ None
+nothing None h = refl
+nothing (Some x) h = absurd (h x refl)
 
 pub no_rule_at : (R : List Entry) (Γ : List Bound) (t : Term) {p : ℕ} → unruled_at t ≡ Some p → (has_rule R Γ t ≡ None) × (place t ≡ p)
 no_rule_at R Γ (sort p s) e = not_some e
@@ -446,6 +473,25 @@ rule_at R Γ (binary p Sum E F) e = (_, refl)
 rule_at R Γ (binary p Ascribe E F) e = (_, refl)
 rule_at R Γ (binary p Let E F) e = (_, refl)
 rule_at R Γ (choice p E F G) e = (_, refl)
+
+-- the forms that meet a type by having an equal one, whatever their parts
+pub equal_rule : {c : Node} {p : ℕ} (Γ : List Bound) (T : Term) (f : ℕ → Term) → ((s : ℕ) × (c ≡ Sort p s)) ⊎ (((k : ℕ) × (c ≡ Local p k)) ⊎ (((j : ℕ) × (c ≡ node.Entry p j)) ⊎ ((e : ℕ) × (l : ℕ) × (r : ℕ) × (c ≡ Match p e l r)))) → (place (form c f) ≡ p) × (meets_rule Γ (form c f) T ≡ meets_equal Γ (form c f) T)
+equal_rule Γ T f (inl x) = rw x.1 (refl, refl)
+equal_rule Γ T f (inr (inl x)) = rw x.1 (refl, refl)
+equal_rule Γ T f (inr (inr (inl x))) = rw x.1 (refl, refl)
+equal_rule Γ T f (inr (inr (inr x))) = rw x.3 (refl, refl)
+
+-- an injection meets its side of a sum
+pub at_side : {S : System} {R : List Entry} {w : Spot} {x z : Arena} {r : Result ℕ Fault} (side : Side) (Γ : List Bound) (E T : Term) → Ran S R w (expect (parts Sum T) (λ sides. premise (meets Γ E (chosen side sides)) (λ _. gets T))) x z r → Ran S R w (meets_side side Γ E T) x z r
+at_side First Γ E T d = d
+at_side Second Γ E T d = d
+
+side_term : (side : Side) (a : Arena) (x : ℕ × ℕ) → term a (chosen side x) ≡ chosen side (pair a x)
+side_term First a x = refl
+side_term Second a x = refl
+
+pub side_met : {S : System} {R : List Entry} {w : Spot} {Γ : List Bound} {E : Term} {i : ℕ} {x z : Arena} {r : Result ℕ Fault} (side : Side) (s : ℕ × ℕ) → i ≡ chosen side s → Leads S R w (premise (meets Γ E (term x i))) (term z) suc x z r → Leads S R w (premise (meets Γ E (chosen side (pair x s)))) (term z) suc x z r
+side_met {x = x} side s e d = rw (← side_term side x s, ← e) d
 
 -- what comparing has shown
 pub when_true : {b : Bool} (P Q : Type 0) → b ≡ true → MatchBool b P Q → P

@@ -1,5 +1,5 @@
 -- How the judging of a statement is put together.
-use Rattle.std.proofs.Common.{◌≡◌, ℕ, ◌+◌, ◌<◌, ◌≤◌, true, List, [], IsErrAnd, None, Ok, Err, vec_items, Option, Result, sym, refl, ap, ◌∙◌, subst, ap₂, arith}
+use Rattle.std.proofs.Common.{◌≡◌, ℕ, ◌+◌, ◌<◌, ◌≤◌, ◌⊎◌, inl, inr, true, false, is_ok, List, [], IsErrAnd, None, Ok, Err, vec_items, Option, Result, sym, refl, ap, ◌∙◌, subst, ap₂, arith}
 use Rattle.term.specs.declared.arena.Arena.{Arena}
 use Rattle.term.specs.declared.faults.Spent as faults
 use Rattle.term.specs.declared.node.Stored.{Stored}
@@ -10,6 +10,7 @@ use Rattle.term.specs.State.{cells_in, term, ctx, Kept, Spends, Rewound}
 use Rattle.term.proofs.Trees.{chain_none}
 use Rattle.term.proofs.States.{on_to}
 use Rattle.script.specs.declared.statement.StatementKind.{StatementKind}
+use Rattle.script.specs.declared.statement.StatementKind.TheVariants.{Def, Eval}
 use Rattle.rules.specs.Rules.{Judgement, has, Entry, Premises, has_a_sort}
 use Rattle.rules.specs.Derivation.{System, Spot, Chain}
 use Rattle.rules.specs.Scope.{Sealed, Scoped, depth}
@@ -114,6 +115,20 @@ module _ (S : System) (R : List Entry) (k : StatementKind) (E : Term) (x z : Are
     (λ w n h l. ap (λ f. Err (Refused f)) (law.one_refusal y w _ n d.1.2 h).0),
     (λ h. absurd (let q = law.passed_refused y _ _ d.1.2 h in omega (arith, q, d.1.1))),
   )
+
+-- judged, by whether there is a result
+pub judged_ok : {S : System} {R : List Entry} {x z : Arena} {mark : ℕ} (k : StatementKind) (E : Term) (r : Result Stored Fault) → is_ok r ≡ true → Concludes S R (spot_of E) (judged k E) x z mark r → Judged S R k E x z mark r
+judged_ok k E (Ok s) q d = accepted k E d
+judged_ok k E (Err f) q d = absurd (let e : false ≡ true = q in cc)
+
+pub judged_err : {S : System} {R : List Entry} {x y z : Arena} {mark : ℕ} (k : StatementKind) (E : Term) (r : Result Stored Fault) → is_ok r ≡ false → mark ≤ cells_in x → Concludes S R (spot_of E) (judged k E) x y mark r → Rewound y z mark → Judged S R k E x z mark r
+judged_err k E (Ok s) q h d w = absurd (let e : true ≡ false = q in cc)
+judged_err k E (Err f) q h d w = stopped k E h d w
+
+-- a definition and an evaluation need the same
+pub with_form : {S : System} {R : List Entry} {w : Spot} {x z : Arena} {mark : ℕ} {r : Result Stored Fault} {k : StatementKind} (E : Term) → (k ≡ Def) ⊎ (k ≡ Eval) → Concludes S R w (judged Def E) x z mark r → Concludes S R w (judged k E) x z mark r
+with_form E (inl e) d = rw e d
+with_form E (inr e) d = rw e d
 
 -- at the place of a term
 pub at_spot : {S : System} {R : List Entry} {A X : Type 0} {p q : ℕ} {C : (X → Premises) → Premises} {v : A → X} {tip : A → ℕ} {x y : Arena} {r : Result A Fault} → p ≡ q → Leads S R (typing p) C v tip x y r → Leads S R (typing q) C v tip x y r

@@ -1,18 +1,21 @@
 -- What a call of the code has shown of a judgement, of premises, or of the first of some premises.
-use Rattle.std.specs.Prelude.{◌≡◌, ℕ, suc, ◌+◌, ◌<◌, ◌≤◌, max, List, IfOk, Some, None, Ok, Err, Option, Result, MatchResult}
+use Rattle.std.specs.Prelude.{ℕ, suc, ◌+◌, ◌<◌, ◌≤◌, max, List, IfOk, Some, None, Ok, Err, Option, Result}
 use Rattle.term.specs.declared.arena.Arena.{Arena}
 use Rattle.term.specs.declared.node.Binary.{Binary}
 use Rattle.term.specs.declared.node.Unary.{Unary}
 use Rattle.term.specs.declared.node.Unary.TheVariants.{Fun, Fst, Snd, Inl, Inr}
 use Rattle.term.specs.declared.node.Binary.TheVariants.{Pi, Sigma, Exists, Typed, App, Pair, Pack, Unpack, Sum, Ascribe, Let}
 use Rattle.term.specs.Term.{Term, sort, local, entry, unary, binary, choice}
+use Rattle.term.specs.Cells.{Bound}
 use Rattle.term.specs.State.{cells_in, term, Kept}
-use Rattle.rules.specs.declared.refusal.Reason.TheVariants.{OtherForm}
-use Rattle.rules.specs.Rules.{Judgement, Entry, Premises, parts, lowering}
-use Rattle.rules.specs.Derivation.{System, Spot, refusal}
+use Rattle.rules.specs.Rules.{Judgement, Entry, Premises, gets, meets_left, meets_right}
+use Rattle.rules.specs.Derivation.{System, Spot}
+use Rattle.normal.specs.declared.look.Side.{Side}
+use Rattle.normal.specs.declared.look.Side.TheVariants.{First, Second}
+use Rattle.normal.specs.declared.site.Site.{Site}
+use Rattle.normal.specs.Views.{entries_at, context_at}
 use Rattle.normal.specs.Runs.{Outcome, Ends, Goes}
 use Rattle.kernel.specs.declared.fault.Fault.{Fault}
-use Rattle.kernel.specs.declared.fault.Fault.TheVariants.{Refused}
 use Rattle.kernel.specs.Faults.{typing, faulted}
 
 abbrev pub outcome : Arena → Result ℕ Fault → Outcome
@@ -62,19 +65,24 @@ sorted s = s
 abbrev pub none : ℕ → ℕ
 none s = 0
 
--- a lowering, at the place p, whatever the system and the entries
-pub record Lowering (a b : Arena) (p n : ℕ) (t : Term) (r : Result ℕ Fault) : Type 0 where
-  pub kept : Kept a b
-  pub fair : cells_in b + b.left ≤ cells_in a + a.left
-  pub falls : b.left ≤ a.left
-  pub within : IfOk r (λ i. i < cells_in b)
-  pub went : (S : System) (es : List Entry) → Leading S es (typing p) (lowering n t) (term b) a.left b.left r
+-- a judgement was looked into, premises were gone through, and the first of some premises, at a site
+abbrev pub Infers : System → Site → (List Bound → Judgement) → Arena → Arena → Result ℕ Fault → Type 0
+Infers S s j a b r = Judges S (entries_at s a) (j (context_at s a)) a b r
 
--- the parts of a term of the form b, else a refusal
-abbrev pub Expects : Arena → ℕ → Binary → ℕ → Result (ℕ × ℕ) Fault → Type 0
-Expects a p b i r =
-    MatchResult r (λ x. (parts b (term a i) ≡ Some (pair a x)) × (tips x ≤ i))
-    (λ f. (parts b (term a i) ≡ None) × (f ≡ Refused (refusal OtherForm (typing p))))
+abbrev pub Applies : System → Site → (List Entry → ℕ → List Bound → Premises) → Arena → Arena → Result ℕ Fault → Type 0
+Applies S s c a b r = Ran S (entries_at s a) (typing s.place) (c (entries_at s a) s.place (context_at s a)) a b r
+
+abbrev pub Begins : {A X : Type 0} → System → Site → (List Bound → (X → Premises) → Premises) → (A → X) → (A → ℕ) → Arena → Arena → Result A Fault → Type 0
+Begins S s C v tip a b r = Leads S (entries_at s a) (typing s.place) (C (context_at s a)) v tip a b r
+
+-- the sort s is the answer, for a term at p
+abbrev pub sort_gets : ℕ → ℕ → Premises
+sort_gets p s = gets (sort p s)
+
+-- an injection meets its side of a sum
+abbrev pub meets_side : Side → List Bound → Term → Term → Premises
+meets_side First = meets_left
+meets_side Second = meets_right
 
 -- the place of a term whose type no rule infers
 abbrev pub unruled_one : ℕ → Unary → Option ℕ

@@ -1,19 +1,24 @@
 //! What the rules of types do besides asking for other judgements.
-ghost use Rattle.std.specs.Prelude.{◌≡◌, ℕ, suc, ◌+◌, ◌-◌, ◌*◌, ◌^◌, ◌<◌, ◌≤◌, List, Option};
-ghost use Rattle.term.specs.Cells.{over, reach, high};
-ghost use Rattle.term.specs.State.{term, ctx, cells_in};
-ghost use Rattle.rules.specs.Rules.{Entry, as_sort, has_sort, has_join, has_local, has_entry};
-ghost use Rattle.rules.specs.Derivation.{System};
-ghost use Rattle.normal.specs.Views.{rows, top};
+ghost use Rattle.std.specs.Prelude.{◌≡◌, ℕ, suc, ◌+◌, ◌-◌, ◌*◌, ◌^◌, ◌<◌, ◌≤◌, List, Option, IfOk};
+ghost use Rattle.std.specs.Result.{result_map_both};
+ghost use Rattle.term.specs.Cells.{bound, over, reach, high};
+ghost use Rattle.term.specs.State.{term, cells_in};
+ghost use Rattle.rules.specs.Rules.{Question, Entry, as_sort, expect, parts, lowering, ask, gets, has_local, has_entry};
+ghost use Rattle.rules.specs.Derivation.{System, refusal};
+ghost use Rattle.normal.specs.Views.{Within, Paid, Enters, entries_at};
+ghost use Rattle.kernel.specs.declared.fault.Fault.TheVariants as fault;
 ghost use Rattle.kernel.specs.Faults.{typing};
-ghost use Rattle.kernel.specs.Runs.{Ran, Lowering, Expects, unruled};
+ghost use Rattle.kernel.specs.Runs.{Ran, Applies, Leads, pair, tips, unruled, sort_gets};
 
 use crate::fault::{Fault, refused};
-use normal::look::{listed, parts};
+use crate::typing::Typing;
+use normal::look::parts;
+use normal::site::Site;
 use rules::refusal::Reason;
 use sorts::SortSystem;
 use term::arena::Arena;
-use term::node::{Binary, Node, Stored, Unary};
+use term::faults::Spent;
+use term::node::{Binary, Node, Unary};
 
 // The sort that a term is.
 pub(crate) fn as_sort(arena: &Arena, id: usize) -> Option<u16>
@@ -36,85 +41,94 @@ pub(crate) fn unruled(arena: &Arena, id: usize) -> Option<usize>
     }
 }
 
-// The parts of a term that must have this form, for the term at `p`.
-pub(crate) fn expect(
-    arena: &Arena,
-    p: usize,
-    form: Binary,
-    id: usize,
-) -> Result<(usize, usize), Fault>
-    ensures { Expects arena.now p form id result }
-{
-    match parts(arena, form, id) {
-        Some(x) => Ok(x),
-        None => Err(refused(Reason::OtherForm, p)),
+impl<'a, S: SortSystem> Typing<'a, S> {
+    // The same, for a term at `place`.
+    pub(crate) fn at(&self, place: usize) -> Typing<'a, S>
+        ensures { result ≡ record self.now { site = record self.now.site { place = place } } }
+    {
+        Typing {
+            site: Site { place, ..self.site },
+            system: self.system,
+        }
     }
-}
 
-// The term without the `n` nearest binders, for the term at `p`.
-pub(crate) fn lowered(arena: &mut Arena, p: usize, n: u32, id: usize) -> Result<usize, Fault>
-    ensures { Lowering arena.old arena.new p n (term arena.old id) result }
-{
-    match arena.lower(n, id)? {
-        Some(low) => Ok(low),
-        None => Err(refused(Reason::Escapes, p)),
+    // The same under one more binder, which costs 1: of that type and the binding, if there is one.
+    pub(crate) fn under(
+        &self,
+        arena: &mut Arena,
+        kind: usize,
+        value: Option<usize>,
+    ) -> Result<Typing<'a, S>, Spent>
+        requires here { Within self.now.site arena.old }
+        requires kind { kind < cells_in arena.old }
+        requires value { over value ≤ cells_in arena.old }
+        ensures site { Enters self.now.site (record { type = term arena.old kind; value = bound value (term arena.old) }) arena.old arena.new (result_map_both (λ t. t.site) (λ e. e) result) }
+        ensures system { IfOk result (λ t. t.system ≡ self.now.system) }
+    {
+        let site = self.site.enter(arena, Some(kind), value)?;
+        Ok(Typing {
+            site,
+            system: self.system,
+        })
     }
-}
 
-// The sort above a sort.
-pub(crate) fn above<S: SortSystem>(
-    arena: &mut Arena,
-    sys: &S,
-    p: usize,
-    s: u16,
-) -> Result<usize, Fault>
-    requires { cells_in arena.old + arena.old.left < arena.old.limit }
-    ensures { (es : List Entry) → Ran (S.SortSystem.answers sys.now) es (typing p) (has_sort p s) arena.old arena.new result }
-{
-    match sys.above(s) {
-        Some(u) => Ok(arena.add(Node::Sort(p, u))),
-        None => Err(refused(Reason::NoSort, p)),
+    // A refusal of the term that is typed.
+    pub(crate) fn refused(&self, reason: Reason) -> Fault
+        ensures { result ≡ fault.Refused (refusal reason (typing self.now.site.place)) }
+    {
+        refused(reason, self.site.place)
     }
-}
 
-// The sort that joins two.
-pub(crate) fn join<S: SortSystem>(
-    arena: &mut Arena,
-    sys: &S,
-    p: usize,
-    s: u16,
-    t: u16,
-) -> Result<usize, Fault>
-    requires { cells_in arena.old + arena.old.left < arena.old.limit }
-    ensures { (es : List Entry) → Ran (S.SortSystem.answers sys.now) es (typing p) (has_join p s t) arena.old arena.new result }
-{
-    match sys.join(s, t) {
-        Some(u) => Ok(arena.add(Node::Sort(p, u))),
-        None => Err(refused(Reason::NoSort, p)),
+    // The parts of a term that must have this form.
+    pub(crate) fn expect(
+        &self,
+        arena: &Arena,
+        form: Binary,
+        id: usize,
+    ) -> Result<(usize, usize), Fault>
+        requires { id < cells_in arena.now }
+        ensures parts { (X : System) (es : List Entry) → Leads X es (typing self.now.site.place) (expect (parts form (term arena.now id))) (pair arena.now) tips arena.now arena.now result }
+        ensures low { IfOk result (λ x. tips x ≤ cells_in arena.now) }
+    {
+        parts(arena, form, id).ok_or(self.refused(Reason::OtherForm))
     }
-}
 
-// The type of a local.
-pub(crate) fn local(arena: &mut Arena, p: usize, o: Option<usize>, k: u64) -> Result<usize, Fault>
-    requires { over o ≤ cells_in arena.old }
-    ensures { (S : System) (es : List Entry) → Ran S es (typing p) (has_local (ctx arena.old o) k) arena.old arena.new result }
-{
-    match arena.binder(o, k) {
-        None => Err(refused(Reason::OtherForm, p)),
-        Some(binder) => match binder.kind {
-            Some(t) => Ok(arena.lift(k as u32 + 1, t)?),
+    // The term without the `n` nearest binders.
+    pub(crate) fn lowered(&self, arena: &mut Arena, n: u32, id: usize) -> Result<usize, Fault>
+        ensures { (X : System) (es : List Entry) → Leads X es (typing self.now.site.place) (lowering n (term arena.old id)) (term arena.new) suc arena.old arena.new result }
+    {
+        arena.lower(n, id)?.ok_or(self.refused(Reason::Escapes))
+    }
+
+    // The sort with which the system has answered a question.
+    pub(crate) fn answered(&self, arena: &mut Arena, answer: Option<u16>) -> Result<usize, Fault>
+        requires { Paid arena.old }
+        ensures { (X : System) (es : List Entry) (q : Question) → X q ≡ answer → Ran X es (typing self.now.site.place) (ask q (sort_gets self.now.site.place)) arena.old arena.new result }
+    {
+        let sort = answer.ok_or(self.refused(Reason::NoSort))?;
+        Ok(arena.add(Node::Sort(self.site.place, sort)))
+    }
+
+    // The type of a local.
+    pub(crate) fn local(&self, arena: &mut Arena, k: u64) -> Result<usize, Fault>
+        requires { Within self.now.site arena.old }
+        ensures { (X : System) → Applies X self.now.site (λ es p Γ. has_local Γ k) arena.old arena.new result }
+    {
+        let binder = arena
+            .binder(self.site.context, k)
+            .ok_or(self.refused(Reason::OtherForm))?;
+        match binder.kind {
+            Some(kind) => Ok(arena.lift(k as u32 + 1, kind)?),
             None => Ok(arena.make(Node::Sort(0, 0))?),
-        },
+        }
     }
-}
 
-// The type of an entry, shared.
-pub(crate) fn entry(arena: &Arena, es: &[Stored], p: usize, j: usize) -> Result<usize, Fault>
-    requires { top es.now ≤ cells_in arena.now }
-    ensures { (S : System) → Ran S (rows arena.now es.now) (typing p) (has_entry (rows arena.now es.now) j) arena.now arena.now result }
-{
-    match listed(es, j) {
-        None => Err(refused(Reason::OtherForm, p)),
-        Some(row) => Ok(row.kind),
+    // The type of an entry, shared.
+    pub(crate) fn entry(&self, arena: &Arena, j: usize) -> Result<usize, Fault>
+        requires { Within self.now.site arena.now }
+        ensures { (X : System) → Applies X self.now.site (λ es p Γ. has_entry es j) arena.now arena.now result }
+    {
+        let row = self.site.entry(j).ok_or(self.refused(Reason::OtherForm))?;
+        Ok(row.kind)
     }
 }

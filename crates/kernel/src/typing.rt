@@ -1,671 +1,424 @@
 //! The rules of types, a function for each: what is left of the budget falls at each use.
-ghost use Rattle.std.specs.Prelude.{◌≡◌, ℕ, suc, ◌+◌, ◌-◌, ◌*◌, ◌^◌, ◌<◌, ◌≤◌, List, [], ◌∷◌, Some, None};
+ghost use Rattle.std.specs.Prelude.{◌≡◌, ℕ, suc, ◌+◌, ◌-◌, ◌*◌, ◌^◌, ◌<◌, ◌≤◌, List, [], ◌∷◌, Some, None, All};
 ghost use Rattle.term.specs.Cells.{form, reach, high, over};
-ghost use Rattle.term.specs.State.{term, ctx, cells_in};
+ghost use Rattle.term.specs.State.{term, cells_in};
 ghost use Rattle.rules.specs.Rules.{Premises, has, meets, has_a_sort, has_parts, arm, has_former, has_sum, has_typed, has_app};
 ghost use Rattle.rules.specs.Rules.{has_first, has_second, has_unpack, has_let, has_ascription, has_ascribed, has_match, has_one, has_two};
-ghost use Rattle.rules.specs.Rules.{meets_fun, meets_pair, meets_left, meets_right, meets_equal, meets_one, meets_two};
-ghost use Rattle.normal.specs.Views.{rows, top};
-ghost use Rattle.kernel.specs.Faults.{typing};
-ghost use Rattle.kernel.specs.Runs.{Judges, Ran, Leads, pair, tips, sorted, none};
+ghost use Rattle.rules.specs.Rules.{meets_fun, meets_pair, meets_equal, meets_one, meets_two};
+ghost use Rattle.normal.specs.Views.{Within, Paid, context_at};
+ghost use Rattle.kernel.specs.Runs.{Infers, Applies, Begins, pair, tips, sorted, none, meets_side};
 
 use crate::fault::{Fault, refused};
-use crate::steps::{above, as_sort, entry, expect, join, local, lowered, unruled};
-use normal::look::parts;
-use normal::norm::norm;
+use crate::steps::{as_sort, unruled};
+use normal::look::Side;
+use normal::site::Site;
 use rules::refusal::Reason;
 use sorts::SortSystem;
 use term::arena::Arena;
-use term::node::{Binary, Binder, Node, Stored, Unary};
+use term::node::{Binary, Node, Unary};
 
-// The type that a term has.
-#[cycle(typing)]
-pub fn infer<S: SortSystem>(
-    arena: &mut Arena,
-    es: &[Stored],
-    sys: &S,
-    o: Option<usize>,
-    id: usize,
-) -> Result<usize, Fault>
-    requires rows { top es.now ≤ cells_in arena.old }
-    requires ctx { over o ≤ cells_in arena.old }
-    requires id { id < cells_in arena.old }
-    ensures { Judges (S.SortSystem.answers sys.now) (rows arena.old es.now) (has (ctx arena.old o) (term arena.old id)) arena.old arena.new result }
-{
-    match unruled(arena, id) {
-        Some(p) => Err(refused(Reason::NoRule, p)),
-        None => {
-            arena.spend(1)?;
-            match arena.at(id) {
-                Node::Sort(p, s) => above(arena, sys, p, s),
-                Node::Local(p, k) => local(arena, p, o, k),
-                Node::Entry(p, j) => entry(arena, es, p, j),
-                Node::One(p, form, a) => one(arena, es, sys, p, o, form, a),
-                Node::Two(p, form, a, b) => two(arena, es, sys, p, o, form, a, b),
-                Node::Match(p, a, f, g) => choose(arena, es, sys, p, o, a, f, g),
+// Where a term is typed, and the system that answers for its sorts.
+#[derive_where(Clone, Copy)]
+pub struct Typing<'a, S> {
+    pub site: Site<'a>,
+    pub system: &'a S,
+}
+
+impl<'a, S: SortSystem> Typing<'a, S> {
+    // The type that a term has.
+    #[cycle(typing)]
+    pub fn infer(&self, arena: &mut Arena, id: usize) -> Result<usize, Fault>
+        requires here { Within self.now.site arena.old }
+        requires id { id < cells_in arena.old }
+        ensures { Infers (S.SortSystem.answers self.now.system.now) self.now.site (λ Γ. has Γ (term arena.old id)) arena.old arena.new result }
+    {
+        if let Some(place) = unruled(arena, id) {
+            return Err(refused(Reason::NoRule, place));
+        }
+        arena.spend(1)?;
+        match arena.at(id) {
+            Node::Sort(p, s) => self.at(p).answered(arena, self.system.above(s)),
+            Node::Local(p, k) => self.at(p).local(arena, k),
+            Node::Entry(p, j) => self.at(p).entry(arena, j),
+            Node::One(p, form, a) => self.at(p).one(arena, form, a),
+            Node::Two(p, form, a, b) => self.at(p).two(arena, form, a, b),
+            Node::Match(p, a, f, g) => self.at(p).choose(arena, a, f, g),
+        }
+    }
+
+    // Whether a term meets a type, which is then the answer.
+    #[cycle(typing)]
+    pub fn check(&self, arena: &mut Arena, id: usize, want: usize) -> Result<usize, Fault>
+        requires here { Within self.now.site arena.old }
+        requires id { id < cells_in arena.old }
+        requires want { want < cells_in arena.old }
+        ensures { Infers (S.SortSystem.answers self.now.system.now) self.now.site (λ Γ. meets Γ (term arena.old id) (term arena.old want)) arena.old arena.new result }
+    {
+        arena.spend(1)?;
+        match arena.at(id) {
+            Node::One(p, form, a) => self.at(p).meet_one(arena, id, form, a, want),
+            Node::Two(p, form, a, b) => self.at(p).meet_two(arena, id, form, a, b, want),
+            Node::Sort(p, _) | Node::Local(p, _) | Node::Entry(p, _) | Node::Match(p, _, _, _) => {
+                self.at(p).equal(arena, id, want)
             }
         }
     }
-}
 
-// Whether a term meets a type, which is then the answer.
-#[cycle(typing)]
-pub fn check<S: SortSystem>(
-    arena: &mut Arena,
-    es: &[Stored],
-    sys: &S,
-    o: Option<usize>,
-    id: usize,
-    want: usize,
-) -> Result<usize, Fault>
-    requires rows { top es.now ≤ cells_in arena.old }
-    requires ctx { over o ≤ cells_in arena.old }
-    requires id { id < cells_in arena.old }
-    requires want { want < cells_in arena.old }
-    ensures { Judges (S.SortSystem.answers sys.now) (rows arena.old es.now) (meets (ctx arena.old o) (term arena.old id) (term arena.old want)) arena.old arena.new result }
-{
-    arena.spend(1)?;
-    match arena.at(id) {
-        Node::Sort(p, _) => equal(arena, es, sys, p, o, id, want),
-        Node::Local(p, _) => equal(arena, es, sys, p, o, id, want),
-        Node::Entry(p, _) => equal(arena, es, sys, p, o, id, want),
-        Node::One(p, form, a) => meet_one(arena, es, sys, p, o, id, form, a, want),
-        Node::Two(p, form, a, b) => meet_two(arena, es, sys, p, o, id, form, a, b, want),
-        Node::Match(p, _, _, _) => equal(arena, es, sys, p, o, id, want),
+    // The sort that a term has, which must be one.
+    #[cycle(typing)]
+    pub(crate) fn sort(&self, arena: &mut Arena, id: usize) -> Result<u16, Fault>
+        requires here { Within self.now.site arena.old }
+        requires id { id < cells_in arena.old }
+        ensures { Begins (S.SortSystem.answers self.now.system.now) self.now.site (λ Γ. has_a_sort Γ (term arena.old id)) sorted none arena.old arena.new result }
+    {
+        let kind = self.infer(arena, id)?;
+        as_sort(arena, kind).ok_or(self.refused(Reason::OtherForm))
     }
-}
 
-// The sort that a term has, for the term at `p`.
-#[cycle(typing)]
-pub(crate) fn sort<S: SortSystem>(
-    arena: &mut Arena,
-    es: &[Stored],
-    sys: &S,
-    p: usize,
-    o: Option<usize>,
-    id: usize,
-) -> Result<u16, Fault>
-    requires rows { top es.now ≤ cells_in arena.old }
-    requires ctx { over o ≤ cells_in arena.old }
-    requires id { id < cells_in arena.old }
-    ensures { Leads (S.SortSystem.answers sys.now) (rows arena.old es.now) (typing p) (has_a_sort (ctx arena.old o) (term arena.old id)) sorted none arena.old arena.new result }
-{
-    let t = infer(arena, es, sys, o, id)?;
-    match as_sort(arena, t) {
-        Some(s) => Ok(s),
-        None => Err(refused(Reason::OtherForm, p)),
+    // The parts of the type that a term has, which must be of the form named.
+    #[cycle(typing)]
+    fn split(&self, arena: &mut Arena, form: Binary, id: usize) -> Result<(usize, usize), Fault>
+        requires here { Within self.now.site arena.old }
+        requires id { id < cells_in arena.old }
+        ensures { Begins (S.SortSystem.answers self.now.system.now) self.now.site (λ Γ. has_parts Γ form (term arena.old id)) (pair arena.new) tips arena.old arena.new result }
+    {
+        let kind = self.infer(arena, id)?;
+        self.expect(arena, form, kind)
     }
-}
 
-// The parts of the type that a term has, which must be of the form named, for the term at `p`.
-#[cycle(typing)]
-fn split<S: SortSystem>(
-    arena: &mut Arena,
-    es: &[Stored],
-    sys: &S,
-    p: usize,
-    o: Option<usize>,
-    form: Binary,
-    id: usize,
-) -> Result<(usize, usize), Fault>
-    requires rows { top es.now ≤ cells_in arena.old }
-    requires ctx { over o ≤ cells_in arena.old }
-    requires id { id < cells_in arena.old }
-    ensures { Leads (S.SortSystem.answers sys.now) (rows arena.old es.now) (typing p) (has_parts (ctx arena.old o) form (term arena.old id)) (pair arena.new) tips arena.old arena.new result }
-{
-    let t = infer(arena, es, sys, o, id)?;
-    match parts(arena, form, t) {
-        Some(x) => Ok(x),
-        None => Err(refused(Reason::OtherForm, p)),
+    // The type of an arm under the type of what it matches, without that binder.
+    #[cycle(typing)]
+    fn arm(&self, arena: &mut Arena, kind: usize, id: usize) -> Result<usize, Fault>
+        requires here { Within self.now.site arena.old }
+        requires kind { kind < cells_in arena.old }
+        requires id { id < cells_in arena.old }
+        ensures { Begins (S.SortSystem.answers self.now.system.now) self.now.site (λ Γ. arm Γ (term arena.old kind) (term arena.old id)) (term arena.new) suc arena.old arena.new result }
+    {
+        let inner = self.under(arena, kind, None)?;
+        let found = inner.infer(arena, id)?;
+        self.lowered(arena, 1, found)
     }
-}
 
-// The type of an arm under the type of what it matches, without that binder.
-#[cycle(typing)]
-fn arm<S: SortSystem>(
-    arena: &mut Arena,
-    es: &[Stored],
-    sys: &S,
-    p: usize,
-    o: Option<usize>,
-    kind: usize,
-    id: usize,
-) -> Result<usize, Fault>
-    requires rows { top es.now ≤ cells_in arena.old }
-    requires ctx { over o ≤ cells_in arena.old }
-    requires kind { kind < cells_in arena.old }
-    requires id { id < cells_in arena.old }
-    ensures { Leads (S.SortSystem.answers sys.now) (rows arena.old es.now) (typing p) (arm (ctx arena.old o) (term arena.old kind) (term arena.old id)) (term arena.new) suc arena.old arena.new result }
-{
-    let i = arena.enter(Binder {
-        kind: Some(kind),
-        value: None,
-        outer: o,
-    })?;
-    let t = infer(arena, es, sys, Some(i), id)?;
-    lowered(arena, p, 1, t)
-}
-
-// A form with one part.
-#[cycle(typing)]
-fn one<S: SortSystem>(
-    arena: &mut Arena,
-    es: &[Stored],
-    sys: &S,
-    p: usize,
-    o: Option<usize>,
-    form: Unary,
-    a: usize,
-) -> Result<usize, Fault>
-    requires rows { top es.now ≤ cells_in arena.old }
-    requires ctx { over o ≤ cells_in arena.old }
-    requires a { a < cells_in arena.old }
-    requires free { cells_in arena.old + arena.old.left < arena.old.limit }
-    ensures { (c : Premises) → has_one p (ctx arena.old o) form (term arena.old a) ≡ Some c → Ran (S.SortSystem.answers sys.now) (rows arena.old es.now) (typing p) (c) arena.old arena.new result }
-{
-    match form {
-        Unary::Fst => first(arena, es, sys, p, o, a),
-        Unary::Snd => second(arena, es, sys, p, o, a),
-        Unary::Fun => Err(refused(Reason::NoRule, p)),
-        Unary::Inl => Err(refused(Reason::NoRule, p)),
-        Unary::Inr => Err(refused(Reason::NoRule, p)),
-    }
-}
-
-// A form with two parts.
-#[cycle(typing)]
-fn two<S: SortSystem>(
-    arena: &mut Arena,
-    es: &[Stored],
-    sys: &S,
-    p: usize,
-    o: Option<usize>,
-    form: Binary,
-    a: usize,
-    b: usize,
-) -> Result<usize, Fault>
-    requires rows { top es.now ≤ cells_in arena.old }
-    requires ctx { over o ≤ cells_in arena.old }
-    requires a { a < cells_in arena.old }
-    requires b { b < cells_in arena.old }
-    requires free { cells_in arena.old + arena.old.left < arena.old.limit }
-    ensures { (c : Premises) → has_two p (ctx arena.old o) form (term arena.old a) (term arena.old b) ≡ Some c → Ran (S.SortSystem.answers sys.now) (rows arena.old es.now) (typing p) (c) arena.old arena.new result }
-{
-    match form {
-        Binary::Pi => former(arena, es, sys, p, o, a, b),
-        Binary::Sigma => former(arena, es, sys, p, o, a, b),
-        Binary::Exists => former(arena, es, sys, p, o, a, b),
-        Binary::Typed => lambda(arena, es, sys, p, o, a, b),
-        Binary::App => app(arena, es, sys, p, o, a, b),
-        Binary::Unpack => open(arena, es, sys, p, o, a, b),
-        Binary::Sum => sum(arena, es, sys, p, o, a, b),
-        Binary::Ascribe => ascribe(arena, es, sys, p, o, a, b),
-        Binary::Let => bind(arena, es, sys, p, o, a, b),
-        Binary::Pair => Err(refused(Reason::NoRule, p)),
-        Binary::Pack => Err(refused(Reason::NoRule, p)),
-    }
-}
-
-// The types with a binder.
-#[cycle(typing)]
-fn former<S: SortSystem>(
-    arena: &mut Arena,
-    es: &[Stored],
-    sys: &S,
-    p: usize,
-    o: Option<usize>,
-    a: usize,
-    b: usize,
-) -> Result<usize, Fault>
-    requires rows { top es.now ≤ cells_in arena.old }
-    requires ctx { over o ≤ cells_in arena.old }
-    requires a { a < cells_in arena.old }
-    requires b { b < cells_in arena.old }
-    requires free { cells_in arena.old + arena.old.left < arena.old.limit }
-    ensures { Ran (S.SortSystem.answers sys.now) (rows arena.old es.now) (typing p) (has_former p (ctx arena.old o) (term arena.old a) (term arena.old b)) arena.old arena.new result }
-{
-    let s = sort(arena, es, sys, p, o, a)?;
-    let t = norm(arena, es, p, o, a)?;
-    let i = arena.enter(Binder {
-        kind: Some(t),
-        value: None,
-        outer: o,
-    })?;
-    let u = sort(arena, es, sys, p, Some(i), b)?;
-    join(arena, sys, p, s, u)
-}
-
-// A sum.
-#[cycle(typing)]
-fn sum<S: SortSystem>(
-    arena: &mut Arena,
-    es: &[Stored],
-    sys: &S,
-    p: usize,
-    o: Option<usize>,
-    a: usize,
-    b: usize,
-) -> Result<usize, Fault>
-    requires rows { top es.now ≤ cells_in arena.old }
-    requires ctx { over o ≤ cells_in arena.old }
-    requires a { a < cells_in arena.old }
-    requires b { b < cells_in arena.old }
-    requires free { cells_in arena.old + arena.old.left < arena.old.limit }
-    ensures { Ran (S.SortSystem.answers sys.now) (rows arena.old es.now) (typing p) (has_sum p (ctx arena.old o) (term arena.old a) (term arena.old b)) arena.old arena.new result }
-{
-    let s = sort(arena, es, sys, p, o, a)?;
-    let u = sort(arena, es, sys, p, o, b)?;
-    join(arena, sys, p, s, u)
-}
-
-// A typed function.
-#[cycle(typing)]
-fn lambda<S: SortSystem>(
-    arena: &mut Arena,
-    es: &[Stored],
-    sys: &S,
-    p: usize,
-    o: Option<usize>,
-    a: usize,
-    b: usize,
-) -> Result<usize, Fault>
-    requires rows { top es.now ≤ cells_in arena.old }
-    requires ctx { over o ≤ cells_in arena.old }
-    requires a { a < cells_in arena.old }
-    requires b { b < cells_in arena.old }
-    requires free { cells_in arena.old + arena.old.left < arena.old.limit }
-    ensures { Ran (S.SortSystem.answers sys.now) (rows arena.old es.now) (typing p) (has_typed p (ctx arena.old o) (term arena.old a) (term arena.old b)) arena.old arena.new result }
-{
-    sort(arena, es, sys, p, o, a)?;
-    let t = norm(arena, es, p, o, a)?;
-    let i = arena.enter(Binder {
-        kind: Some(t),
-        value: None,
-        outer: o,
-    })?;
-    let q = infer(arena, es, sys, Some(i), b)?;
-    Ok(arena.add(Node::Two(p, Binary::Pi, t, q)))
-}
-
-// An application: the argument itself is put in, not its form.
-#[cycle(typing)]
-fn app<S: SortSystem>(
-    arena: &mut Arena,
-    es: &[Stored],
-    sys: &S,
-    p: usize,
-    o: Option<usize>,
-    a: usize,
-    b: usize,
-) -> Result<usize, Fault>
-    requires rows { top es.now ≤ cells_in arena.old }
-    requires ctx { over o ≤ cells_in arena.old }
-    requires a { a < cells_in arena.old }
-    requires b { b < cells_in arena.old }
-    ensures { Ran (S.SortSystem.answers sys.now) (rows arena.old es.now) (typing p) (has_app p (ctx arena.old o) (term arena.old a) (term arena.old b)) arena.old arena.new result }
-{
-    let x = split(arena, es, sys, p, o, Binary::Pi, a)?;
-    check(arena, es, sys, o, b, x.0)?;
-    let q = arena.put(b, x.1)?;
-    Ok(norm(arena, es, p, o, q)?)
-}
-
-// The first part of a pair.
-#[cycle(typing)]
-fn first<S: SortSystem>(
-    arena: &mut Arena,
-    es: &[Stored],
-    sys: &S,
-    p: usize,
-    o: Option<usize>,
-    a: usize,
-) -> Result<usize, Fault>
-    requires rows { top es.now ≤ cells_in arena.old }
-    requires ctx { over o ≤ cells_in arena.old }
-    requires a { a < cells_in arena.old }
-    ensures { Ran (S.SortSystem.answers sys.now) (rows arena.old es.now) (typing p) (has_first (ctx arena.old o) (term arena.old a)) arena.old arena.new result }
-{
-    let x = split(arena, es, sys, p, o, Binary::Sigma, a)?;
-    Ok(x.0)
-}
-
-// The second part of a pair: the first part itself is put in.
-#[cycle(typing)]
-fn second<S: SortSystem>(
-    arena: &mut Arena,
-    es: &[Stored],
-    sys: &S,
-    p: usize,
-    o: Option<usize>,
-    a: usize,
-) -> Result<usize, Fault>
-    requires rows { top es.now ≤ cells_in arena.old }
-    requires ctx { over o ≤ cells_in arena.old }
-    requires a { a < cells_in arena.old }
-    requires free { cells_in arena.old + arena.old.left < arena.old.limit }
-    ensures { Ran (S.SortSystem.answers sys.now) (rows arena.old es.now) (typing p) (has_second p (ctx arena.old o) (term arena.old a)) arena.old arena.new result }
-{
-    let x = split(arena, es, sys, p, o, Binary::Sigma, a)?;
-    let e = arena.add(Node::One(p, Unary::Fst, a));
-    let q = arena.put(e, x.1)?;
-    Ok(norm(arena, es, p, o, q)?)
-}
-
-// A pack that is unpacked.
-#[cycle(typing)]
-fn open<S: SortSystem>(
-    arena: &mut Arena,
-    es: &[Stored],
-    sys: &S,
-    p: usize,
-    o: Option<usize>,
-    a: usize,
-    b: usize,
-) -> Result<usize, Fault>
-    requires rows { top es.now ≤ cells_in arena.old }
-    requires ctx { over o ≤ cells_in arena.old }
-    requires a { a < cells_in arena.old }
-    requires b { b < cells_in arena.old }
-    ensures { Ran (S.SortSystem.answers sys.now) (rows arena.old es.now) (typing p) (has_unpack (ctx arena.old o) (term arena.old a) (term arena.old b)) arena.old arena.new result }
-{
-    let x = split(arena, es, sys, p, o, Binary::Exists, a)?;
-    let i = arena.enter(Binder {
-        kind: Some(x.0),
-        value: None,
-        outer: o,
-    })?;
-    let j = arena.enter(Binder {
-        kind: Some(x.1),
-        value: None,
-        outer: Some(i),
-    })?;
-    let t = infer(arena, es, sys, Some(j), b)?;
-    lowered(arena, p, 2, t)
-}
-
-// A let: the body under its binding.
-#[cycle(typing)]
-fn bind<S: SortSystem>(
-    arena: &mut Arena,
-    es: &[Stored],
-    sys: &S,
-    p: usize,
-    o: Option<usize>,
-    a: usize,
-    b: usize,
-) -> Result<usize, Fault>
-    requires rows { top es.now ≤ cells_in arena.old }
-    requires ctx { over o ≤ cells_in arena.old }
-    requires a { a < cells_in arena.old }
-    requires b { b < cells_in arena.old }
-    ensures { Ran (S.SortSystem.answers sys.now) (rows arena.old es.now) (typing p) (has_let p (ctx arena.old o) (term arena.old a) (term arena.old b)) arena.old arena.new result }
-{
-    let q = infer(arena, es, sys, o, a)?;
-    let v = norm(arena, es, p, o, a)?;
-    let i = arena.enter(Binder {
-        kind: Some(q),
-        value: Some(v),
-        outer: o,
-    })?;
-    let t = infer(arena, es, sys, Some(i), b)?;
-    lowered(arena, p, 1, t)
-}
-
-// An ascription, by a sort or by another type.
-#[cycle(typing)]
-fn ascribe<S: SortSystem>(
-    arena: &mut Arena,
-    es: &[Stored],
-    sys: &S,
-    p: usize,
-    o: Option<usize>,
-    a: usize,
-    b: usize,
-) -> Result<usize, Fault>
-    requires rows { top es.now ≤ cells_in arena.old }
-    requires ctx { over o ≤ cells_in arena.old }
-    requires a { a < cells_in arena.old }
-    requires b { b < cells_in arena.old }
-    ensures { Ran (S.SortSystem.answers sys.now) (rows arena.old es.now) (typing p) (has_ascription p (ctx arena.old o) (term arena.old a) (term arena.old b)) arena.old arena.new result }
-{
-    match as_sort(arena, b) {
-        Some(_) => {
-            check(arena, es, sys, o, a, b)?;
-            Ok(b)
+    // A form with one part.
+    #[cycle(typing)]
+    fn one(&self, arena: &mut Arena, form: Unary, a: usize) -> Result<usize, Fault>
+        requires here { Within self.now.site arena.old }
+        requires a { a < cells_in arena.old }
+        requires paid { Paid arena.old }
+        ensures { (c : Premises) → has_one self.now.site.place (context_at self.now.site arena.old) form (term arena.old a) ≡ Some c → Applies (S.SortSystem.answers self.now.system.now) self.now.site (λ es p Γ. c) arena.old arena.new result }
+    {
+        match form {
+            Unary::Fst => self.first(arena, a),
+            Unary::Snd => self.second(arena, a),
+            Unary::Fun | Unary::Inl | Unary::Inr => Err(self.refused(Reason::NoRule)),
         }
-        None => ascribed(arena, es, sys, p, o, a, b),
     }
-}
 
-// An ascription by a type that is no sort.
-#[cycle(typing)]
-fn ascribed<S: SortSystem>(
-    arena: &mut Arena,
-    es: &[Stored],
-    sys: &S,
-    p: usize,
-    o: Option<usize>,
-    a: usize,
-    b: usize,
-) -> Result<usize, Fault>
-    requires rows { top es.now ≤ cells_in arena.old }
-    requires ctx { over o ≤ cells_in arena.old }
-    requires a { a < cells_in arena.old }
-    requires b { b < cells_in arena.old }
-    ensures { Ran (S.SortSystem.answers sys.now) (rows arena.old es.now) (typing p) (has_ascribed p (ctx arena.old o) (term arena.old a) (term arena.old b)) arena.old arena.new result }
-{
-    sort(arena, es, sys, p, o, b)?;
-    let t = norm(arena, es, p, o, b)?;
-    check(arena, es, sys, o, a, t)?;
-    Ok(t)
-}
-
-// A match: both arms have the same type.
-#[cycle(typing)]
-fn choose<S: SortSystem>(
-    arena: &mut Arena,
-    es: &[Stored],
-    sys: &S,
-    p: usize,
-    o: Option<usize>,
-    a: usize,
-    f: usize,
-    g: usize,
-) -> Result<usize, Fault>
-    requires rows { top es.now ≤ cells_in arena.old }
-    requires ctx { over o ≤ cells_in arena.old }
-    requires a { a < cells_in arena.old }
-    requires f { f < cells_in arena.old }
-    requires g { g < cells_in arena.old }
-    ensures { Ran (S.SortSystem.answers sys.now) (rows arena.old es.now) (typing p) (has_match (ctx arena.old o) (term arena.old a) (term arena.old f) (term arena.old g)) arena.old arena.new result }
-{
-    let x = split(arena, es, sys, p, o, Binary::Sum, a)?;
-    let l = arm(arena, es, sys, p, o, x.0, f)?;
-    let r = arm(arena, es, sys, p, o, x.1, g)?;
-    if arena.equal(l, r) {
-        Ok(l)
-    } else {
-        Err(refused(Reason::Unequal, p))
+    // A form with two parts.
+    #[cycle(typing)]
+    fn two(&self, arena: &mut Arena, form: Binary, a: usize, b: usize) -> Result<usize, Fault>
+        requires here { Within self.now.site arena.old }
+        requires a { a < cells_in arena.old }
+        requires b { b < cells_in arena.old }
+        requires paid { Paid arena.old }
+        ensures { (c : Premises) → has_two self.now.site.place (context_at self.now.site arena.old) form (term arena.old a) (term arena.old b) ≡ Some c → Applies (S.SortSystem.answers self.now.system.now) self.now.site (λ es p Γ. c) arena.old arena.new result }
+    {
+        match form {
+            Binary::Pi | Binary::Sigma | Binary::Exists => self.former(arena, a, b),
+            Binary::Typed => self.lambda(arena, a, b),
+            Binary::App => self.app(arena, a, b),
+            Binary::Unpack => self.open(arena, a, b),
+            Binary::Sum => self.sum(arena, a, b),
+            Binary::Ascribe => self.ascribe(arena, a, b),
+            Binary::Let => self.bind(arena, a, b),
+            Binary::Pair | Binary::Pack => Err(self.refused(Reason::NoRule)),
+        }
     }
-}
 
-// A form with one part, against a type.
-#[cycle(typing)]
-fn meet_one<S: SortSystem>(
-    arena: &mut Arena,
-    es: &[Stored],
-    sys: &S,
-    p: usize,
-    o: Option<usize>,
-    id: usize,
-    form: Unary,
-    a: usize,
-    want: usize,
-) -> Result<usize, Fault>
-    requires rows { top es.now ≤ cells_in arena.old }
-    requires ctx { over o ≤ cells_in arena.old }
-    requires id { id < cells_in arena.old }
-    requires a { a < cells_in arena.old }
-    requires want { want < cells_in arena.old }
-    ensures { Ran (S.SortSystem.answers sys.now) (rows arena.old es.now) (typing p) (meets_one (ctx arena.old o) (term arena.old id) form (term arena.old a) (term arena.old want)) arena.old arena.new result }
-{
-    match form {
-        Unary::Fun => fun(arena, es, sys, p, o, a, want),
-        Unary::Inl => left(arena, es, sys, p, o, a, want),
-        Unary::Inr => right(arena, es, sys, p, o, a, want),
-        Unary::Fst | Unary::Snd => equal(arena, es, sys, p, o, id, want),
+    // The types with a binder.
+    #[cycle(typing)]
+    fn former(&self, arena: &mut Arena, a: usize, b: usize) -> Result<usize, Fault>
+        requires here { Within self.now.site arena.old }
+        requires a { a < cells_in arena.old }
+        requires b { b < cells_in arena.old }
+        requires paid { Paid arena.old }
+        ensures { Applies (S.SortSystem.answers self.now.system.now) self.now.site (λ es p Γ. has_former p Γ (term arena.old a) (term arena.old b)) arena.old arena.new result }
+    {
+        let s = self.sort(arena, a)?;
+        let domain = self.site.norm(arena, a)?;
+        let inner = self.under(arena, domain, None)?;
+        let t = inner.sort(arena, b)?;
+        self.answered(arena, self.system.join(s, t))
     }
-}
 
-// A form with two parts, against a type.
-#[cycle(typing)]
-fn meet_two<S: SortSystem>(
-    arena: &mut Arena,
-    es: &[Stored],
-    sys: &S,
-    p: usize,
-    o: Option<usize>,
-    id: usize,
-    form: Binary,
-    a: usize,
-    b: usize,
-    want: usize,
-) -> Result<usize, Fault>
-    requires rows { top es.now ≤ cells_in arena.old }
-    requires ctx { over o ≤ cells_in arena.old }
-    requires id { id < cells_in arena.old }
-    requires a { a < cells_in arena.old }
-    requires b { b < cells_in arena.old }
-    requires want { want < cells_in arena.old }
-    ensures { Ran (S.SortSystem.answers sys.now) (rows arena.old es.now) (typing p) (meets_two p (ctx arena.old o) (term arena.old id) form (term arena.old a) (term arena.old b) (term arena.old want)) arena.old arena.new result }
-{
-    match form {
-        Binary::Pair => pair(arena, es, sys, p, o, Binary::Sigma, a, b, want),
-        Binary::Pack => pair(arena, es, sys, p, o, Binary::Exists, a, b, want),
-        _ => equal(arena, es, sys, p, o, id, want),
+    // A sum.
+    #[cycle(typing)]
+    fn sum(&self, arena: &mut Arena, a: usize, b: usize) -> Result<usize, Fault>
+        requires here { Within self.now.site arena.old }
+        requires a { a < cells_in arena.old }
+        requires b { b < cells_in arena.old }
+        requires paid { Paid arena.old }
+        ensures { Applies (S.SortSystem.answers self.now.system.now) self.now.site (λ es p Γ. has_sum p Γ (term arena.old a) (term arena.old b)) arena.old arena.new result }
+    {
+        let s = self.sort(arena, a)?;
+        let t = self.sort(arena, b)?;
+        self.answered(arena, self.system.join(s, t))
     }
-}
 
-// A function against a Pi.
-#[cycle(typing)]
-fn fun<S: SortSystem>(
-    arena: &mut Arena,
-    es: &[Stored],
-    sys: &S,
-    p: usize,
-    o: Option<usize>,
-    a: usize,
-    want: usize,
-) -> Result<usize, Fault>
-    requires rows { top es.now ≤ cells_in arena.old }
-    requires ctx { over o ≤ cells_in arena.old }
-    requires a { a < cells_in arena.old }
-    requires want { want < cells_in arena.old }
-    ensures { Ran (S.SortSystem.answers sys.now) (rows arena.old es.now) (typing p) (meets_fun (ctx arena.old o) (term arena.old a) (term arena.old want)) arena.old arena.new result }
-{
-    let x = expect(arena, p, Binary::Pi, want)?;
-    let i = arena.enter(Binder {
-        kind: Some(x.0),
-        value: None,
-        outer: o,
-    })?;
-    check(arena, es, sys, Some(i), a, x.1)?;
-    Ok(want)
-}
+    // A typed function.
+    #[cycle(typing)]
+    fn lambda(&self, arena: &mut Arena, a: usize, b: usize) -> Result<usize, Fault>
+        requires here { Within self.now.site arena.old }
+        requires a { a < cells_in arena.old }
+        requires b { b < cells_in arena.old }
+        requires paid { Paid arena.old }
+        ensures { Applies (S.SortSystem.answers self.now.system.now) self.now.site (λ es p Γ. has_typed p Γ (term arena.old a) (term arena.old b)) arena.old arena.new result }
+    {
+        self.sort(arena, a)?;
+        let domain = self.site.norm(arena, a)?;
+        let inner = self.under(arena, domain, None)?;
+        let codomain = inner.infer(arena, b)?;
+        Ok(arena.add(Node::Two(self.site.place, Binary::Pi, domain, codomain)))
+    }
 
-// A pair against a Sigma, or a pack against an Exists.
-#[cycle(typing)]
-fn pair<S: SortSystem>(
-    arena: &mut Arena,
-    es: &[Stored],
-    sys: &S,
-    p: usize,
-    o: Option<usize>,
-    form: Binary,
-    a: usize,
-    b: usize,
-    want: usize,
-) -> Result<usize, Fault>
-    requires rows { top es.now ≤ cells_in arena.old }
-    requires ctx { over o ≤ cells_in arena.old }
-    requires a { a < cells_in arena.old }
-    requires b { b < cells_in arena.old }
-    requires want { want < cells_in arena.old }
-    ensures { Ran (S.SortSystem.answers sys.now) (rows arena.old es.now) (typing p) (meets_pair form p (ctx arena.old o) (term arena.old a) (term arena.old b) (term arena.old want)) arena.old arena.new result }
-{
-    let x = expect(arena, p, form, want)?;
-    check(arena, es, sys, o, a, x.0)?;
-    let q = arena.put(a, x.1)?;
-    let t = norm(arena, es, p, o, q)?;
-    check(arena, es, sys, o, b, t)?;
-    Ok(want)
-}
+    // An application: the argument itself is put in, not its form.
+    #[cycle(typing)]
+    fn app(&self, arena: &mut Arena, a: usize, b: usize) -> Result<usize, Fault>
+        requires here { Within self.now.site arena.old }
+        requires a { a < cells_in arena.old }
+        requires b { b < cells_in arena.old }
+        ensures { Applies (S.SortSystem.answers self.now.system.now) self.now.site (λ es p Γ. has_app p Γ (term arena.old a) (term arena.old b)) arena.old arena.new result }
+    {
+        let (domain, codomain) = self.split(arena, Binary::Pi, a)?;
+        self.check(arena, b, domain)?;
+        let filled = arena.put(&[b], codomain)?;
+        Ok(self.site.norm(arena, filled)?)
+    }
 
-// An injection against the first side of a sum.
-#[cycle(typing)]
-fn left<S: SortSystem>(
-    arena: &mut Arena,
-    es: &[Stored],
-    sys: &S,
-    p: usize,
-    o: Option<usize>,
-    a: usize,
-    want: usize,
-) -> Result<usize, Fault>
-    requires rows { top es.now ≤ cells_in arena.old }
-    requires ctx { over o ≤ cells_in arena.old }
-    requires a { a < cells_in arena.old }
-    requires want { want < cells_in arena.old }
-    ensures { Ran (S.SortSystem.answers sys.now) (rows arena.old es.now) (typing p) (meets_left (ctx arena.old o) (term arena.old a) (term arena.old want)) arena.old arena.new result }
-{
-    let x = expect(arena, p, Binary::Sum, want)?;
-    check(arena, es, sys, o, a, x.0)?;
-    Ok(want)
-}
+    // The first part of a pair.
+    #[cycle(typing)]
+    fn first(&self, arena: &mut Arena, a: usize) -> Result<usize, Fault>
+        requires here { Within self.now.site arena.old }
+        requires a { a < cells_in arena.old }
+        ensures { Applies (S.SortSystem.answers self.now.system.now) self.now.site (λ es p Γ. has_first Γ (term arena.old a)) arena.old arena.new result }
+    {
+        let (first, _) = self.split(arena, Binary::Sigma, a)?;
+        Ok(first)
+    }
 
-// An injection against the second side of a sum.
-#[cycle(typing)]
-fn right<S: SortSystem>(
-    arena: &mut Arena,
-    es: &[Stored],
-    sys: &S,
-    p: usize,
-    o: Option<usize>,
-    a: usize,
-    want: usize,
-) -> Result<usize, Fault>
-    requires rows { top es.now ≤ cells_in arena.old }
-    requires ctx { over o ≤ cells_in arena.old }
-    requires a { a < cells_in arena.old }
-    requires want { want < cells_in arena.old }
-    ensures { Ran (S.SortSystem.answers sys.now) (rows arena.old es.now) (typing p) (meets_right (ctx arena.old o) (term arena.old a) (term arena.old want)) arena.old arena.new result }
-{
-    let x = expect(arena, p, Binary::Sum, want)?;
-    check(arena, es, sys, o, a, x.1)?;
-    Ok(want)
-}
+    // The second part of a pair: the first part itself is put in.
+    #[cycle(typing)]
+    fn second(&self, arena: &mut Arena, a: usize) -> Result<usize, Fault>
+        requires here { Within self.now.site arena.old }
+        requires a { a < cells_in arena.old }
+        requires paid { Paid arena.old }
+        ensures { Applies (S.SortSystem.answers self.now.system.now) self.now.site (λ es p Γ. has_second p Γ (term arena.old a)) arena.old arena.new result }
+    {
+        let (_, second) = self.split(arena, Binary::Sigma, a)?;
+        let first = arena.add(Node::One(self.site.place, Unary::Fst, a));
+        let filled = arena.put(&[first], second)?;
+        Ok(self.site.norm(arena, filled)?)
+    }
 
-// A term that meets a type by having an equal one.
-#[cycle(typing)]
-fn equal<S: SortSystem>(
-    arena: &mut Arena,
-    es: &[Stored],
-    sys: &S,
-    p: usize,
-    o: Option<usize>,
-    id: usize,
-    want: usize,
-) -> Result<usize, Fault>
-    requires rows { top es.now ≤ cells_in arena.old }
-    requires ctx { over o ≤ cells_in arena.old }
-    requires id { id < cells_in arena.old }
-    requires want { want < cells_in arena.old }
-    ensures { Ran (S.SortSystem.answers sys.now) (rows arena.old es.now) (typing p) (meets_equal (ctx arena.old o) (term arena.old id) (term arena.old want)) arena.old arena.new result }
-{
-    let q = infer(arena, es, sys, o, id)?;
-    if arena.equal(q, want) {
+    // A pack that is unpacked.
+    #[cycle(typing)]
+    fn open(&self, arena: &mut Arena, a: usize, b: usize) -> Result<usize, Fault>
+        requires here { Within self.now.site arena.old }
+        requires a { a < cells_in arena.old }
+        requires b { b < cells_in arena.old }
+        ensures { Applies (S.SortSystem.answers self.now.system.now) self.now.site (λ es p Γ. has_unpack Γ (term arena.old a) (term arena.old b)) arena.old arena.new result }
+    {
+        let (first, second) = self.split(arena, Binary::Exists, a)?;
+        let outer = self.under(arena, first, None)?;
+        let inner = outer.under(arena, second, None)?;
+        let found = inner.infer(arena, b)?;
+        self.lowered(arena, 2, found)
+    }
+
+    // A let: the body under its binding.
+    #[cycle(typing)]
+    fn bind(&self, arena: &mut Arena, a: usize, b: usize) -> Result<usize, Fault>
+        requires here { Within self.now.site arena.old }
+        requires a { a < cells_in arena.old }
+        requires b { b < cells_in arena.old }
+        ensures { Applies (S.SortSystem.answers self.now.system.now) self.now.site (λ es p Γ. has_let p Γ (term arena.old a) (term arena.old b)) arena.old arena.new result }
+    {
+        let kind = self.infer(arena, a)?;
+        let value = self.site.norm(arena, a)?;
+        let inner = self.under(arena, kind, Some(value))?;
+        let found = inner.infer(arena, b)?;
+        self.lowered(arena, 1, found)
+    }
+
+    // An ascription, by a sort or by another type.
+    #[cycle(typing)]
+    fn ascribe(&self, arena: &mut Arena, a: usize, b: usize) -> Result<usize, Fault>
+        requires here { Within self.now.site arena.old }
+        requires a { a < cells_in arena.old }
+        requires b { b < cells_in arena.old }
+        ensures { Applies (S.SortSystem.answers self.now.system.now) self.now.site (λ es p Γ. has_ascription p Γ (term arena.old a) (term arena.old b)) arena.old arena.new result }
+    {
+        match as_sort(arena, b) {
+            Some(_) => {
+                self.check(arena, a, b)?;
+                Ok(b)
+            }
+            None => self.ascribed(arena, a, b),
+        }
+    }
+
+    // An ascription by a type that is no sort.
+    #[cycle(typing)]
+    fn ascribed(&self, arena: &mut Arena, a: usize, b: usize) -> Result<usize, Fault>
+        requires here { Within self.now.site arena.old }
+        requires a { a < cells_in arena.old }
+        requires b { b < cells_in arena.old }
+        ensures { Applies (S.SortSystem.answers self.now.system.now) self.now.site (λ es p Γ. has_ascribed p Γ (term arena.old a) (term arena.old b)) arena.old arena.new result }
+    {
+        self.sort(arena, b)?;
+        let kind = self.site.norm(arena, b)?;
+        self.check(arena, a, kind)?;
+        Ok(kind)
+    }
+
+    // A match: both arms have the same type.
+    #[cycle(typing)]
+    fn choose(&self, arena: &mut Arena, a: usize, f: usize, g: usize) -> Result<usize, Fault>
+        requires here { Within self.now.site arena.old }
+        requires a { a < cells_in arena.old }
+        requires f { f < cells_in arena.old }
+        requires g { g < cells_in arena.old }
+        ensures { Applies (S.SortSystem.answers self.now.system.now) self.now.site (λ es p Γ. has_match Γ (term arena.old a) (term arena.old f) (term arena.old g)) arena.old arena.new result }
+    {
+        let (left, right) = self.split(arena, Binary::Sum, a)?;
+        let first = self.arm(arena, left, f)?;
+        let second = self.arm(arena, right, g)?;
+        if arena.equal(first, second) {
+            Ok(first)
+        } else {
+            Err(self.refused(Reason::Unequal))
+        }
+    }
+
+    // A form with one part, against a type.
+    #[cycle(typing)]
+    fn meet_one(
+        &self,
+        arena: &mut Arena,
+        id: usize,
+        form: Unary,
+        a: usize,
+        want: usize,
+    ) -> Result<usize, Fault>
+        requires here { Within self.now.site arena.old }
+        requires id { id < cells_in arena.old }
+        requires a { a < cells_in arena.old }
+        requires want { want < cells_in arena.old }
+        ensures { Applies (S.SortSystem.answers self.now.system.now) self.now.site (λ es p Γ. meets_one Γ (term arena.old id) form (term arena.old a) (term arena.old want)) arena.old arena.new result }
+    {
+        match form {
+            Unary::Fun => self.fun(arena, a, want),
+            Unary::Inl => self.injection(arena, Side::First, a, want),
+            Unary::Inr => self.injection(arena, Side::Second, a, want),
+            Unary::Fst | Unary::Snd => self.equal(arena, id, want),
+        }
+    }
+
+    // A form with two parts, against a type.
+    #[cycle(typing)]
+    fn meet_two(
+        &self,
+        arena: &mut Arena,
+        id: usize,
+        form: Binary,
+        a: usize,
+        b: usize,
+        want: usize,
+    ) -> Result<usize, Fault>
+        requires here { Within self.now.site arena.old }
+        requires id { id < cells_in arena.old }
+        requires a { a < cells_in arena.old }
+        requires b { b < cells_in arena.old }
+        requires want { want < cells_in arena.old }
+        ensures { Applies (S.SortSystem.answers self.now.system.now) self.now.site (λ es p Γ. meets_two p Γ (term arena.old id) form (term arena.old a) (term arena.old b) (term arena.old want)) arena.old arena.new result }
+    {
+        match form {
+            Binary::Pair => self.pair(arena, Binary::Sigma, a, b, want),
+            Binary::Pack => self.pair(arena, Binary::Exists, a, b, want),
+            _ => self.equal(arena, id, want),
+        }
+    }
+
+    // A function against a Pi.
+    #[cycle(typing)]
+    fn fun(&self, arena: &mut Arena, a: usize, want: usize) -> Result<usize, Fault>
+        requires here { Within self.now.site arena.old }
+        requires a { a < cells_in arena.old }
+        requires want { want < cells_in arena.old }
+        ensures { Applies (S.SortSystem.answers self.now.system.now) self.now.site (λ es p Γ. meets_fun Γ (term arena.old a) (term arena.old want)) arena.old arena.new result }
+    {
+        let (domain, codomain) = self.expect(arena, Binary::Pi, want)?;
+        let inner = self.under(arena, domain, None)?;
+        inner.check(arena, a, codomain)?;
         Ok(want)
-    } else {
-        Err(refused(Reason::Unequal, p))
+    }
+
+    // A pair against a Sigma, or a pack against an Exists.
+    #[cycle(typing)]
+    fn pair(
+        &self,
+        arena: &mut Arena,
+        form: Binary,
+        a: usize,
+        b: usize,
+        want: usize,
+    ) -> Result<usize, Fault>
+        requires here { Within self.now.site arena.old }
+        requires a { a < cells_in arena.old }
+        requires b { b < cells_in arena.old }
+        requires want { want < cells_in arena.old }
+        ensures { Applies (S.SortSystem.answers self.now.system.now) self.now.site (λ es p Γ. meets_pair form p Γ (term arena.old a) (term arena.old b) (term arena.old want)) arena.old arena.new result }
+    {
+        let (first, second) = self.expect(arena, form, want)?;
+        self.check(arena, a, first)?;
+        let filled = arena.put(&[a], second)?;
+        let kind = self.site.norm(arena, filled)?;
+        self.check(arena, b, kind)?;
+        Ok(want)
+    }
+
+    // An injection against its side of a sum.
+    #[cycle(typing)]
+    fn injection(
+        &self,
+        arena: &mut Arena,
+        side: Side,
+        a: usize,
+        want: usize,
+    ) -> Result<usize, Fault>
+        requires here { Within self.now.site arena.old }
+        requires a { a < cells_in arena.old }
+        requires want { want < cells_in arena.old }
+        ensures { Applies (S.SortSystem.answers self.now.system.now) self.now.site (λ es p Γ. meets_side side Γ (term arena.old a) (term arena.old want)) arena.old arena.new result }
+    {
+        let sides = self.expect(arena, Binary::Sum, want)?;
+        self.check(arena, a, side.of(sides))?;
+        Ok(want)
+    }
+
+    // A term that meets a type by having an equal one.
+    #[cycle(typing)]
+    fn equal(&self, arena: &mut Arena, id: usize, want: usize) -> Result<usize, Fault>
+        requires here { Within self.now.site arena.old }
+        requires id { id < cells_in arena.old }
+        requires want { want < cells_in arena.old }
+        ensures { Applies (S.SortSystem.answers self.now.system.now) self.now.site (λ es p Γ. meets_equal Γ (term arena.old id) (term arena.old want)) arena.old arena.new result }
+    {
+        let kind = self.infer(arena, id)?;
+        if arena.equal(kind, want) {
+            Ok(want)
+        } else {
+            Err(self.refused(Reason::Unequal))
+        }
     }
 }

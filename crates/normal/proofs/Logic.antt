@@ -1,22 +1,25 @@
 -- How what a call has shown is put together from what its calls have shown.
-use Rattle.std.proofs.Common.{◌≡◌, ℕ, ◌+◌, ◌<◌, ◌≤◌, Bool, true, false, cond, List, [], ◌∷◌, IsErrAnd, IfOk, Some, None, Ok, Err, Option, Result, sym, refl, ap, ◌∙◌, subst, ap₂, arith}
+use Rattle.std.proofs.Common.{◌≡◌, ℕ, ◌+◌, ◌<◌, ◌≤◌, Bool, true, false, cond, List, ◌∷◌, IsErrAnd, IfOk, Some, None, Ok, Err, Option, Result, ok_or, unwrap_or, sym, refl, ap, ◌∙◌, subst, ap₂, arith}
 use Rattle.term.specs.declared.arena.Arena.{Arena}
 use Rattle.term.specs.declared.faults.Spent as faults
 use Rattle.term.specs.declared.node.Binary.{Binary}
+use Rattle.term.specs.declared.node.Binary.TheVariants.{Pair}
 use Rattle.term.specs.declared.node.Node.{Node}
 use Rattle.term.specs.declared.node.Node.TheVariants.{Two, Match}
-use Rattle.term.specs.declared.node.Stored.{Stored}
-use Rattle.term.specs.Term.{Term, binary, choice}
-use Rattle.term.specs.Cells.{Bound, bindings, form, over}
-use Rattle.term.specs.State.{cells_in, term, ctx, Kept, Spends, Added, Built, Entered}
+use Rattle.term.specs.Term.{Term, unary, binary, choice}
+use Rattle.term.specs.Cells.{Bound, bindings, form, bound, over}
+use Rattle.term.specs.State.{cells_in, term, Kept, Spends, Added, Built}
 use Rattle.term.proofs.States.{still, on_to}
 use Rattle.rules.specs.declared.refusal.Reason.TheVariants.{OtherForm}
-use Rattle.rules.specs.Rules.{Judgement, gives, Entry, Premises, refuse, pay, premise, gets, on, neutral, rule, gives_rule, gives_use, gives_filled, gives_open, gives_pick}
+use Rattle.rules.specs.Rules.{Judgement, gives, Entry, Premises, refuse, pay, premise, gets, on, parts, kept, neutral, rule, gives_rule}
 use Rattle.rules.specs.Derivation.{System}
 use Rattle.normal.specs.declared.halt.Halt.{Halt}
 use Rattle.normal.specs.declared.halt.Halt.TheVariants.{Spent, Stuck}
-use Rattle.normal.specs.Views.{rows, top, binding, free}
-use Rattle.normal.specs.Runs.{Outcome, halted, outcome, at, Ends, Goes, Judges, Ran}
+use Rattle.normal.specs.declared.look.Side.{Side}
+use Rattle.normal.specs.declared.look.Side.TheVariants.{First, Second}
+use Rattle.normal.specs.declared.site.Site.{Site}
+use Rattle.normal.specs.Views.{rows, free, entries_at, bindings_at, Within, Inner, Enters, over_both, chosen, projection, gives_side}
+use Rattle.normal.specs.Runs.{Outcome, halted, outcome, at, Ends, Goes, Judges, Ran, Normalises, Applies}
 use Rattle.normal.proofs.Views.{rows_kept, binding_kept}
 use Rattle.normal.proofs.Steps as steps
 
@@ -24,45 +27,46 @@ err_within : {A E : Type 0} (Q : E → Type 0) (P : A → Type 0) (r : Result A 
 err_within Q P (Ok a) q = elim q [ ]
 err_within Q P (Err e) q = tt
 
+-- what `ok_or` says where there is nothing
+pub unfound : {A : Type 0} {o : Option A} {e f : Halt} → o ≡ None → ◌≡◌ {A = Result A Halt} (Err e) (ok_or o f) → e ≡ f
+unfound {A} {o} {e} {f} p q = let h : ◌≡◌ {A = Result A Halt} (Err e) (Err f) = q ∙ ap (λ m. ok_or m f) p in cc
+
 -- judged of what is the same
-pub like : {R R' : List Entry} {p : ℕ} {Δ Δ' : List (Option Term)} {E E' : Term} {x z : Arena} {r : Result ℕ Halt} → R' ≡ R → Δ' ≡ Δ → E' ≡ E → Judges R' p Δ' E' x z r → Judges R p Δ E x z r
-like a b c d = rw (← a, ← b, ← c) d
+pub like : {R R' : List Entry} {p p' : ℕ} {Δ Δ' : List (Option Term)} {E E' : Term} {x z : Arena} {r : Result ℕ Halt} → R' ≡ R → p' ≡ p → Δ' ≡ Δ → E' ≡ E → Judges R' p' Δ' E' x z r → Judges R p Δ E x z r
+like a q b c d = rw (← a, ← q, ← b, ← c) d
 
--- judged at an index as it was earlier
-pub again : {p : ℕ} {x y z : Arena} {r : Result ℕ Halt} (es : List Stored) (o : Option ℕ) (i : ℕ) → Kept x y → top es ≤ cells_in x → over o ≤ cells_in x → i < cells_in x → Judges (rows y es) p (binding y o) (term y i) y z r → Judges (rows x es) p (binding x o) (term x i) y z r
-again es o i k h1 h2 h3 d = like (rows_kept es k h1) (binding_kept o k h2) (k.trees i h3) d
+-- judged at the site outside a binder
+moved : {s t : Site} {E : Term} {y w z : Arena} {r : Result ℕ Halt} → Inner s free y w t → Normalises t E w z r → Judges (entries_at s w) s.place (None ∷ bindings_at s y) E w z r
+moved {w = w} t d = like (ap (λ es. rows w es.now) t.entries) t.place (ap bindings t.context) refl d
 
--- judged under a binder that was stepped under later
-pub inner : {p j : ℕ} {x y w z : Arena} {r : Result ℕ Halt} (es : List Stored) (o : Option ℕ) (i : ℕ) → Kept x y → top es ≤ cells_in x → over o ≤ cells_in x → i < cells_in x → Entered y w (free ∷ ctx y o) (Ok j) → Judges (rows w es) p (binding w (Some j)) (term w i) w z r → Judges (rows x es) p (None ∷ binding x o) (term x i) w z r
-inner es o i k h1 h2 h3 e d =
+-- normalised at a site as it was earlier
+pub again : {s : Site} {x y z : Arena} {r : Result ℕ Halt} (i : ℕ) → Kept x y → Within s x → i < cells_in x → Normalises s (term y i) y z r → Judges (entries_at s x) s.place (bindings_at s x) (term x i) y z r
+again {s} i k h l d = like (rows_kept s.entries.now k h.rows) refl (binding_kept s.context k h.ctx) (k.trees i l) d
+
+-- normalised under a binder that was stepped under later
+pub inner : {s t : Site} {x y w z : Arena} {r : Result ℕ Halt} (i : ℕ) → Kept x y → Within s x → i < cells_in x → Enters s free y w (Ok t) → Normalises t (term w i) w z r → Judges (entries_at s x) s.place (None ∷ bindings_at s x) (term x i) w z r
+inner {s} i k h l e d =
     let m = on_to k e.kept in
-    like (rows_kept es m h1) (ap bindings e.made.1 ∙ ap (λ Δ. None ∷ Δ) (binding_kept o k h2)) (m.trees i h3) d
+    like (rows_kept s.entries.now m h.rows) refl (ap (λ Δ. None ∷ Δ) (binding_kept s.context k h.ctx)) (m.trees i l) (moved e.made.0 d)
 
--- a form used on a form, later
-pub used : {p : ℕ} {x y w z : Arena} {r : Result ℕ Halt} (es : List Stored) (o : Option ℕ) (f v : ℕ) → Kept x y → Kept y w → top es ≤ cells_in x → over o ≤ cells_in x → f < cells_in y → Ran (rows w es) p (gives_use (rows w es) p (binding w o) (term w f) (term w v)) w z r → Ran (rows x es) p (gives_use (rows x es) p (binding x o) (term y f) (term w v)) w z r
-used es o f v k l h1 h2 h3 d = let m = on_to k l in rw (← rows_kept es m h1, ← binding_kept o m h2, ← l.trees f h3) d
-
--- judged under two binders
-pub inner2 : {p j k : ℕ} {x y w z : Arena} {r : Result ℕ Halt} (es : List Stored) (o : Option ℕ) (i : ℕ) → top es ≤ cells_in x → i < cells_in x → Entered x y (free ∷ ctx x o) (Ok j) → Entered y w (free ∷ ctx y (Some j)) (Ok k) → Judges (rows w es) p (binding w (Some k)) (term w i) w z r → Judges (rows x es) p (None ∷ (None ∷ binding x o)) (term x i) w z r
-inner2 es o i h1 h3 d e f =
+-- normalised under two binders
+pub inner2 : {s t u : Site} {x y w z : Arena} {r : Result ℕ Halt} (i : ℕ) → Within s x → i < cells_in x → Enters s free x y (Ok t) → Enters t free y w (Ok u) → Normalises u (term w i) w z r → Judges (entries_at s x) s.place (None ∷ (None ∷ bindings_at s x)) (term x i) w z r
+inner2 {s} {x = x} {y = y} {w = w} i h l d e f =
     let m = on_to d.kept e.kept in
-    like (rows_kept es m h1) (ap bindings e.made.1 ∙ ap (λ Δ. None ∷ bindings Δ) d.made.1) (m.trees i h3) f
+    let t = d.made.0 in
+    like (ap (λ es. rows w es.now) t.entries ∙ rows_kept s.entries.now m h.rows) t.place (ap (λ Δ. None ∷ Δ) (ap bindings t.context)) (m.trees i l) (moved e.made.0 f)
 
--- a body opened, later
-pub opened : {p : ℕ} {x y z : Arena} {r : Result ℕ Halt} (es : List Stored) (o : Option ℕ) (v b : ℕ) → Kept x y → top es ≤ cells_in x → over o ≤ cells_in x → b < cells_in x → Ran (rows y es) p (gives_open (rows y es) p (binding y o) (term y v) (term y b)) y z r → Ran (rows x es) p (gives_open (rows x es) p (binding x o) (term y v) (term x b)) y z r
-opened es o v b k h1 h2 h3 d = rw (← rows_kept es k h1, ← binding_kept o k h2, ← k.trees b h3) d
+-- the premises of a rule gone through later, for what was there earlier
+pub later : {A : Type 0} {s : Site} {E E' : A} {x y z : Arena} {r : Result ℕ Halt} (c : List Entry → ℕ → List (Option Term) → A → Premises) → Kept x y → Within s x → E' ≡ E → Applies s (λ es p Δ. c es p Δ E') y z r → Ran (entries_at s x) s.place (c (entries_at s x) s.place (bindings_at s x) E) y z r
+later {s} c k h e d = rw (← rows_kept s.entries.now k h.rows, ← binding_kept s.context k h.ctx, ← e) d
 
--- an arm picked, later
-pub picked : {p : ℕ} {x y z : Arena} {r : Result ℕ Halt} (es : List Stored) (o : Option ℕ) (v f g : ℕ) → Kept x y → top es ≤ cells_in x → over o ≤ cells_in x → f < cells_in x → g < cells_in x → Ran (rows y es) p (gives_pick (rows y es) p (binding y o) (term y v) (term y f) (term y g)) y z r → Ran (rows x es) p (gives_pick (rows x es) p (binding x o) (term y v) (term x f) (term x g)) y z r
-picked es o v f g k h1 h2 h3 h4 d = rw (← rows_kept es k h1, ← binding_kept o k h2, ← k.trees f h3, ← k.trees g h4) d
-
--- a form put into a body, later
-pub put_later : {p : ℕ} {x y z : Arena} {r : Result ℕ Halt} (es : List Stored) (o : Option ℕ) (v b : ℕ) → Kept x y → top es ≤ cells_in x → over o ≤ cells_in x → b < cells_in x → Ran (rows y es) p (gives_filled p (binding y o) (term y v ∷ []) (term y b)) y z r → Ran (rows x es) p (gives_filled p (binding x o) (term y v ∷ []) (term x b)) y z r
-put_later es o v b k h1 h2 h3 d = rw (← rows_kept es k h1, ← binding_kept o k h2, ← k.trees b h3) d
+-- what was put together later is normalised
+pub filled_later : {s : Site} {t : Term} {x y z : Arena} {r : Result ℕ Halt} (i : ℕ) → Kept x y → Within s x → term y i ≡ t → Normalises s (term y i) y z r → Judges (entries_at s x) s.place (bindings_at s x) t y z r
+filled_later {s} i k h e d = like (rows_kept s.entries.now k h.rows) refl (binding_kept s.context k h.ctx) e d
 
 -- a test of neutrality, earlier
-pub test : {b v : Bool} {x y : Arena} (es : List Stored) (o : Option ℕ) (t : Term) → Kept x y → top es ≤ cells_in x → over o ≤ cells_in x → b ≡ neutral (rows y es) (binding y o) t → b ≡ v → neutral (rows x es) (binding x o) t ≡ v
-test es o t k h1 h2 e f = rw (← rows_kept es k h1, ← binding_kept o k h2) (sym e ∙ f)
+pub test : {s : Site} {v : Bool} {x y : Arena} (t : Term) → Kept x y → Within s x → neutral (entries_at s y) (bindings_at s y) t ≡ v → neutral (entries_at s x) (bindings_at s x) t ≡ v
+test {s} t k h e = rw (← rows_kept s.entries.now k h.rows, ← binding_kept s.context k h.ctx) e
 
 module _ {R : List Entry} {p : ℕ} where
   pub then : {Δ : List (Option Term)} {E : Term} {k : Term → Premises} {x y z : Arena} {i : ℕ} {r : Result ℕ Halt} → Judges R p Δ E x y (Ok i) → Ran R p (k (term y i)) y z r → Ran R p (premise (gives p Δ E) k) x z r
@@ -131,16 +135,16 @@ module _ {R : List Entry} {p : ℕ} where
   }
 
   -- a step under a binder
-  pub enters : {Γ : List Bound} {c : Premises} {x y z : Arena} {i : ℕ} {r : Result ℕ Halt} → Entered x y Γ (Ok i) → Ran R p c y z r → Ran R p (pay 1 c) x z r
+  pub enters : {s t : Site} {B : Bound} {c : Premises} {x y z : Arena} {r : Result ℕ Halt} → Enters s B x y (Ok t) → Ran R p c y z r → Ran R p (pay 1 c) x z r
   enters b d = record {
     kept = on_to b.kept d.kept;
     fair = omega (arith, b.fair, d.fair);
-    falls = omega (arith, b.made.2, d.falls);
+    falls = omega (arith, b.made.1, d.falls);
     within = d.within;
-    went = λ S. steps.pays (omega (arith, b.made.2)) (d.went S);
+    went = λ S. steps.pays (omega (arith, b.made.1)) (d.went S);
   }
 
-  pub barred : {Γ : List Bound} {c : Premises} {x y : Arena} {f : faults.Spent} {r : Result ℕ Halt} → IsErrAnd r (λ e. e ≡ Spent) → Entered x y Γ (Err f) → Ran R p (pay 1 c) x y r
+  pub barred : {s : Site} {B : Bound} {c : Premises} {x y : Arena} {f : faults.Spent} {r : Result ℕ Halt} → IsErrAnd r (λ e. e ≡ Spent) → Enters s B x y (Err f) → Ran R p (pay 1 c) x y r
   barred q b = out b.kept b.fair (omega (arith, b.made)) q
 
   -- the conclusion stands in the cell that the use of the rule has paid for
@@ -171,15 +175,27 @@ module _ {R : List Entry} {p : ℕ} where
     went = λ S. subst (λ u. Goes S R (at p) (gets u) (Outcome.done (term x i) None) x.left x.left) (sym e) (steps.concluded refl);
   }
 
-  pub stuck : {x : Arena} → Ran R p (refuse OtherForm) x x (Err (Stuck p))
-  stuck {x} = record { kept = still x; fair = omega arith; falls = omega arith; within = tt; went = λ S. steps.refuses refl }
+  -- no rule fits
+  pub stuck : {x : Arena} {f : Halt} {r : Result ℕ Halt} → IsErrAnd r (λ e. e ≡ f) → f ≡ Stuck p → Ran R p (refuse OtherForm) x x r
+  stuck {r = Ok i} q e = elim q [ ]
+  stuck {x = x} {r = Err g} q e = record { kept = still x; fair = omega arith; falls = omega arith; within = tt; went = λ S. rw (q, e) (steps.refuses refl) }
+
+  -- one of two
+  pub side_there : {x : Arena} (side : Side) (w : ℕ × ℕ) → over_both (Some w) ≤ cells_in x → Ran R p (gets (chosen side (term x w.0, term x w.1))) x x (Ok (chosen side w))
+  side_there First w l = concluded refl (omega arith)
+  side_there Second w l = concluded refl (omega arith)
+
+  -- a value that is shared, or the term itself
+  pub shares : {x : Arena} {i j : ℕ} (v : Option ℕ) → j ≡ unwrap_or v i → i < cells_in x → over v ≤ cells_in x → Ran R p (on (bound v (term x)) (gets (term x i)) gets) x x (Ok j)
+  shares None e l h = rw e (concluded refl l)
+  shares (Some k) e l h = rw e (concluded refl (omega arith))
 
   -- tests in the chain
-  pub chosen : {b : Bool} {c : Premises} (d : Premises) {x z : Arena} {r : Result ℕ Halt} → b ≡ true → Ran R p c x z r → Ran R p (cond b c d) x z r
-  chosen f e d = rw e d
+  pub so : {b : Bool} {c : Premises} (d : Premises) {x z : Arena} {r : Result ℕ Halt} → b ≡ true → Ran R p c x z r → Ran R p (cond b c d) x z r
+  so f e d = rw e d
 
-  pub passed : {b : Bool} {d : Premises} (c : Premises) {x z : Arena} {r : Result ℕ Halt} → b ≡ false → Ran R p d x z r → Ran R p (cond b c d) x z r
-  passed f e d = rw e d
+  pub otherwise : {b : Bool} {d : Premises} (c : Premises) {x z : Arena} {r : Result ℕ Halt} → b ≡ false → Ran R p d x z r → Ran R p (cond b c d) x z r
+  otherwise f e d = rw e d
 
   pub some : {A : Type 0} {m : Option A} {v : A} (c : Premises) (f : A → Premises) {x z : Arena} {r : Result ℕ Halt} → m ≡ Some v → Ran R p (f v) x z r → Ran R p (on m c f) x z r
   some c f e d = rw e d
@@ -192,15 +208,15 @@ unfolding rule
 known es p Δ E = refl
 
 -- the use of a rule is paid, and its premises were gone through
-pub ruled : {p : ℕ} {c : Premises} {u : Unit {0}} {x y z : Arena} {r : Result ℕ Halt} (es : List Stored) (o : Option ℕ) (i : ℕ) → Spends x y 1 (Ok u) → top es ≤ cells_in x → over o ≤ cells_in x → i < cells_in x → gives_rule (rows y es) p (binding y o) (term y i) ≡ c → Ran (rows y es) p c y z r → Judges (rows x es) p (binding x o) (term x i) x z r
-ruled {p} {c} {u} {x} {y} {z} {r} es o i s h1 h2 h3 q d =
-    like (rows_kept es s.kept h1) (binding_kept o s.kept h2) (s.kept.trees i h3)
+pub ruled : {s : Site} {c : Premises} {u : Unit {0}} {x y z : Arena} {r : Result ℕ Halt} (i : ℕ) → Spends x y 1 (Ok u) → Within s x → i < cells_in x → gives_rule (entries_at s y) s.place (bindings_at s y) (term y i) ≡ c → Ran (entries_at s y) s.place c y z r → Normalises s (term x i) x z r
+ruled {s} {x = x} {y = y} i p h l q d =
+    like (rows_kept s.entries.now p.kept h.rows) refl (binding_kept s.context p.kept h.ctx) (p.kept.trees i l)
     (record {
-      kept = on_to s.kept d.kept;
-      fair = omega (arith, s.len, s.made, d.fair);
-      falls = omega (arith, s.made, d.falls);
+      kept = on_to p.kept d.kept;
+      fair = omega (arith, p.len, p.made, d.fair);
+      falls = omega (arith, p.made, d.falls);
       within = d.within;
-      went = λ S. steps.by_rule (known (rows y es) p (binding y o) (term y i) ∙ ap Some q) (omega (arith, s.made)) (d.went S);
+      went = λ S. steps.by_rule (known (entries_at s y) s.place (bindings_at s y) (term y i) ∙ ap Some q) (omega (arith, p.made)) (d.went S);
     })
 
 -- it cannot be paid
@@ -213,3 +229,8 @@ broke {R} {p} {Δ} {E} {f} {x} {y} {r = Err g} q s = record {
   within = tt;
   went = λ S. subst (λ h. Ends S R (gives p Δ E) (halted h) x.left y.left) (sym q) (steps.broke (known R p Δ E) (omega (arith, s.made.1)));
 }
+
+-- the rule of a projection
+pub at_side : {R : List Entry} {p : ℕ} {Δ : List (Option Term)} {E : Term} {x z : Arena} {r : Result ℕ Halt} (side : Side) → Ran R p (premise (gives p Δ E) (λ v. on (parts Pair v) (kept R Δ v (gets (unary p (projection side) v))) (λ w. gets (chosen side w)))) x z r → Ran R p (gives_side side R p Δ E) x z r
+at_side First d = d
+at_side Second d = d

@@ -1,15 +1,17 @@
 -- What a call of the code has shown of a judgement, or of premises.
-use Rattle.std.specs.Prelude.{◌≡◌, ℕ, ◌+◌, ◌<◌, ◌≤◌, List, IfOk, None, Ok, Err, Option, Result}
+use Rattle.std.specs.Prelude.{◌≡◌, ℕ, ◌+◌, ◌<◌, ◌≤◌, List, IfOk, None, Ok, Err, Option, Result, MatchResult, true, false}
 use Rattle.term.specs.declared.arena.Arena.{Arena}
 use Rattle.term.specs.Term.{Term}
 use Rattle.term.specs.State.{cells_in, term, Kept}
 use Rattle.rules.specs.declared.refusal.Reason.TheVariants.{OtherForm}
 use Rattle.rules.specs.declared.refusal.Layer.TheVariants.{Normalising}
 use Rattle.rules.specs.declared.refusal.Refusal.{Refusal}
-use Rattle.rules.specs.Rules.{Judgement, gives, Entry, Premises}
+use Rattle.rules.specs.Rules.{Judgement, gives, Entry, Premises, neutral}
 use Rattle.rules.specs.Derivation.{System, Spot, refusal, Derives, Chain, Refuses, Halts, Exceeds, Passes}
 use Rattle.normal.specs.declared.halt.Halt.{Halt}
 use Rattle.normal.specs.declared.halt.Halt.TheVariants.{Spent, Stuck}
+use Rattle.normal.specs.declared.site.Site.{Site}
+use Rattle.normal.specs.Views.{entries_at, bindings_at}
 
 -- a result and perhaps a value, as premises conclude, or why there is none
 pub data Outcome : Type 0 where
@@ -57,3 +59,16 @@ pub record Ran (es : List Entry) (p : ℕ) (c : Premises) (a b : Arena) (r : Res
   pub falls : b.left ≤ a.left
   pub within : IfOk r (λ i. i < cells_in b)
   pub went : (S : System) → Goes S es (at p) c (outcome b r) a.left b.left
+
+-- a normal form of E was looked for, and the premises of a rule were gone through, at a site
+abbrev pub Normalises : Site → Term → Arena → Arena → Result ℕ Halt → Type 0
+Normalises s E a b r = Judges (entries_at s a) s.place (bindings_at s a) E a b r
+
+abbrev pub Applies : Site → (List Entry → ℕ → List (Option Term) → Premises) → Arena → Arena → Result ℕ Halt → Type 0
+Applies s c a b r = Ran (entries_at s a) s.place (c (entries_at s a) s.place (bindings_at s a)) a b r
+
+-- whether E is neutral there; if not, no rule fits
+abbrev pub Keeps : Site → Arena → Term → Result (Unit {0}) Halt → Type 0
+Keeps s a E r =
+    MatchResult r (λ _. neutral (entries_at s a) (bindings_at s a) E ≡ true)
+    (λ e. (e ≡ Stuck s.place) × (neutral (entries_at s a) (bindings_at s a) E ≡ false))

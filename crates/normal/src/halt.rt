@@ -5,7 +5,7 @@ ghost use Rattle.std.specs.Prelude.{◌≡◌};
 use term::faults::Spent;
 
 // The budget does not suffice, or no rule fits, for the term at a place.
-#[derive(Clone, Copy)]
+#[derive(Clone, Copy, Debug, PartialEq, Eq)]
 pub enum Halt {
     Spent,
     Stuck(usize),

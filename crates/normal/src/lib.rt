@@ -4,3 +4,4 @@
 pub mod halt;
 pub mod look;
 pub mod norm;
+pub mod site;

@@ -1,559 +1,334 @@
 //! The rules of normal forms, a function for each: what is left of the budget falls at each use.
-ghost use Rattle.std.specs.Prelude.{◌≡◌, ℕ, suc, ◌+◌, ◌-◌, ◌*◌, ◌^◌, ◌<◌, ◌≤◌, List, [], ◌∷◌};
+ghost use Rattle.std.specs.Prelude.{◌≡◌, ℕ, suc, ◌+◌, ◌-◌, ◌*◌, ◌^◌, ◌<◌, ◌≤◌, All, map};
 ghost use Rattle.term.specs.Cells.{form, reach, high, over};
 ghost use Rattle.term.specs.State.{term, cells_in};
-ghost use Rattle.rules.specs.Rules.{Entry, gives_local, gives_entry, gives_fun, gives_under, gives_beside, gives_wrap};
-ghost use Rattle.rules.specs.Rules.{gives_filled, gives_use, gives_app, gives_let, gives_first, gives_second};
-ghost use Rattle.rules.specs.Rules.{gives_deep, gives_open, gives_unpack, gives_arms, gives_right, gives_pick, gives_match, gives_one, gives_two};
-ghost use Rattle.normal.specs.Views.{rows, top, binding};
-ghost use Rattle.normal.specs.Runs.{Judges, Ran};
+ghost use Rattle.rules.specs.Rules.{gives_local, gives_entry, gives_fun, gives_under, gives_beside, gives_wrap};
+ghost use Rattle.rules.specs.Rules.{gives_filled, gives_use, gives_app, gives_let};
+ghost use Rattle.rules.specs.Rules.{gives_deep, gives_open, gives_unpack, gives_arms, gives_pick, gives_match, gives_one, gives_two};
 
 use crate::halt::Halt;
-use crate::look::{inside, listed, neutral, part, parts};
+use crate::look::{Side, part, parts};
+use crate::site::Site;
 use term::arena::Arena;
-use term::node::{Binary, Node, Stored, Unary};
+use term::node::{Binary, Node, Unary};
 
-// A local: its binding, lifted, or itself.
-fn local(arena: &mut Arena, p: usize, o: Option<usize>, k: u64, id: usize) -> Result<usize, Halt>
-    requires ctx { over o ≤ cells_in arena.old }
-    requires id { id < cells_in arena.old }
-    ensures { (es : List Entry) → Ran es p (gives_local (binding arena.old o) k (term arena.old id)) arena.old arena.new result }
-{
-    match arena.binder(o, k) {
-        None => Err(Halt::Stuck(p)),
-        Some(binder) => match binder.value {
+impl<'a> Site<'a> {
+    ghost use Rattle.normal.specs.Views.{Within, Paid, gives_side};
+    ghost use Rattle.normal.specs.Runs.{Normalises, Applies, Keeps};
+
+    // A local: its binding, lifted, or itself.
+    fn local(&self, arena: &mut Arena, k: u64, id: usize) -> Result<usize, Halt>
+        requires here { Within self.now arena.old }
+        requires id { id < cells_in arena.old }
+        ensures { Applies self.now (λ es p Δ. gives_local Δ k (term arena.old id)) arena.old arena.new result }
+    {
+        let binder = arena
+            .binder(self.context, k)
+            .ok_or(Halt::Stuck(self.place))?;
+        match binder.value {
+            Some(value) => Ok(arena.lift(k as u32 + 1, value)?),
             None => Ok(id),
-            Some(v) => Ok(arena.lift(k as u32 + 1, v)?),
-        },
+        }
     }
-}
 
-// An entry: its value, shared, or itself.
-fn entry(arena: &Arena, es: &[Stored], p: usize, j: usize, id: usize) -> Result<usize, Halt>
-    requires rows { top es.now ≤ cells_in arena.now }
-    requires id { id < cells_in arena.now }
-    ensures { Ran (rows arena.now es.now) p (gives_entry (rows arena.now es.now) j (term arena.now id)) arena.now arena.now result }
-{
-    match listed(es, j) {
-        None => Err(Halt::Stuck(p)),
-        Some(row) => match row.value {
-            None => Ok(id),
-            Some(v) => Ok(v),
-        },
+    // An entry: its value, shared, or itself.
+    fn shared(&self, arena: &Arena, j: usize, id: usize) -> Result<usize, Halt>
+        requires here { Within self.now arena.now }
+        requires id { id < cells_in arena.now }
+        ensures { Applies self.now (λ es p Δ. gives_entry es j (term arena.now id)) arena.now arena.now result }
+    {
+        let row = self.entry(j).ok_or(Halt::Stuck(self.place))?;
+        Ok(row.value.unwrap_or(id))
     }
-}
 
-// The normal form of the tree.
-#[cycle(norm)]
-pub fn norm(
-    arena: &mut Arena,
-    es: &[Stored],
-    p: usize,
-    o: Option<usize>,
-    id: usize,
-) -> Result<usize, Halt>
-    requires rows { top es.now ≤ cells_in arena.old }
-    requires ctx { over o ≤ cells_in arena.old }
-    requires id { id < cells_in arena.old }
-    ensures { Judges (rows arena.old es.now) p (binding arena.old o) (term arena.old id) arena.old arena.new result }
-{
-    arena.spend(1)?;
-    match arena.at(id) {
-        Node::Local(_, k) => local(arena, p, o, k, id),
-        Node::Entry(_, j) => entry(arena, es, p, j, id),
-        Node::One(_, op, a) => one(arena, es, p, o, op, a),
-        Node::Two(_, op, a, b) => two(arena, es, p, o, op, a, b),
-        Node::Match(_, a, f, g) => choose(arena, es, p, o, a, f, g),
-        Node::Sort(_, _) => Ok(id),
+    // Nothing, if the form is neutral; else no rule fits.
+    fn keep(&self, arena: &Arena, id: usize) -> Result<(), Halt>
+        ensures { Keeps self.now arena.now (term arena.now id) result }
+    {
+        if self.is_neutral(arena, id) {
+            Ok(())
+        } else {
+            Err(Halt::Stuck(self.place))
+        }
     }
-}
 
-// A unary form.
-#[cycle(norm)]
-fn one(
-    arena: &mut Arena,
-    es: &[Stored],
-    p: usize,
-    o: Option<usize>,
-    op: Unary,
-    a: usize,
-) -> Result<usize, Halt>
-    requires rows { top es.now ≤ cells_in arena.old }
-    requires ctx { over o ≤ cells_in arena.old }
-    requires a { a < cells_in arena.old }
-    requires free { cells_in arena.old + arena.old.left < arena.old.limit }
-    ensures { Ran (rows arena.old es.now) p (gives_one (rows arena.old es.now) p (binding arena.old o) op (term arena.old a)) arena.old arena.new result }
-{
-    match op {
-        Unary::Fun => fun(arena, es, p, o, a),
-        Unary::Fst => first(arena, es, p, o, a),
-        Unary::Snd => second(arena, es, p, o, a),
-        Unary::Inl | Unary::Inr => wrap(arena, es, p, o, op, a),
+    // The normal form of the tree.
+    #[cycle(norm)]
+    pub fn norm(&self, arena: &mut Arena, id: usize) -> Result<usize, Halt>
+        requires here { Within self.now arena.old }
+        requires id { id < cells_in arena.old }
+        ensures { Normalises self.now (term arena.old id) arena.old arena.new result }
+    {
+        arena.spend(1)?;
+        match arena.at(id) {
+            Node::Local(_, k) => self.local(arena, k, id),
+            Node::Entry(_, j) => self.shared(arena, j, id),
+            Node::One(_, op, a) => self.one(arena, op, a),
+            Node::Two(_, op, a, b) => self.two(arena, op, a, b),
+            Node::Match(_, a, f, g) => self.choose(arena, a, f, g),
+            Node::Sort(_, _) => Ok(id),
+        }
     }
-}
 
-// A binary form.
-#[cycle(norm)]
-fn two(
-    arena: &mut Arena,
-    es: &[Stored],
-    p: usize,
-    o: Option<usize>,
-    op: Binary,
-    a: usize,
-    b: usize,
-) -> Result<usize, Halt>
-    requires rows { top es.now ≤ cells_in arena.old }
-    requires ctx { over o ≤ cells_in arena.old }
-    requires a { a < cells_in arena.old }
-    requires b { b < cells_in arena.old }
-    requires free { cells_in arena.old + arena.old.left < arena.old.limit }
-    ensures { Ran (rows arena.old es.now) p (gives_two (rows arena.old es.now) p (binding arena.old o) op (term arena.old a) (term arena.old b)) arena.old arena.new result }
-{
-    match op {
-        Binary::Pi | Binary::Sigma | Binary::Exists => under(arena, es, p, o, op, a, b),
-        Binary::Typed => fun(arena, es, p, o, b),
-        Binary::App => app(arena, es, p, o, a, b),
-        Binary::Pair | Binary::Pack | Binary::Sum => beside(arena, es, p, o, op, a, b),
-        Binary::Ascribe => norm(arena, es, p, o, a),
-        Binary::Let => bind(arena, es, p, o, a, b),
-        Binary::Unpack => unpack(arena, es, p, o, a, b),
+    // A unary form.
+    #[cycle(norm)]
+    fn one(&self, arena: &mut Arena, op: Unary, a: usize) -> Result<usize, Halt>
+        requires here { Within self.now arena.old }
+        requires a { a < cells_in arena.old }
+        requires paid { Paid arena.old }
+        ensures { Applies self.now (λ es p Δ. gives_one es p Δ op (term arena.old a)) arena.old arena.new result }
+    {
+        match op {
+            Unary::Fun => self.fun(arena, a),
+            Unary::Fst => self.projection(arena, Side::First, a),
+            Unary::Snd => self.projection(arena, Side::Second, a),
+            Unary::Inl | Unary::Inr => self.wrap(arena, op, a),
+        }
     }
-}
 
-// A function: its body.
-#[cycle(norm)]
-fn fun(
-    arena: &mut Arena,
-    es: &[Stored],
-    p: usize,
-    o: Option<usize>,
-    a: usize,
-) -> Result<usize, Halt>
-    requires rows { top es.now ≤ cells_in arena.old }
-    requires ctx { over o ≤ cells_in arena.old }
-    requires a { a < cells_in arena.old }
-    requires free { cells_in arena.old + arena.old.left < arena.old.limit }
-    ensures { Ran (rows arena.old es.now) p (gives_fun p (binding arena.old o) (term arena.old a)) arena.old arena.new result }
-{
-    let i = inside(arena, o)?;
-    let v = norm(arena, es, p, Some(i), a)?;
-    Ok(arena.add(Node::One(p, Unary::Fun, v)))
-}
+    // A binary form.
+    #[cycle(norm)]
+    fn two(&self, arena: &mut Arena, op: Binary, a: usize, b: usize) -> Result<usize, Halt>
+        requires here { Within self.now arena.old }
+        requires a { a < cells_in arena.old }
+        requires b { b < cells_in arena.old }
+        requires paid { Paid arena.old }
+        ensures { Applies self.now (λ es p Δ. gives_two es p Δ op (term arena.old a) (term arena.old b)) arena.old arena.new result }
+    {
+        match op {
+            Binary::Pi | Binary::Sigma | Binary::Exists => self.under(arena, op, a, b),
+            Binary::Typed => self.fun(arena, b),
+            Binary::App => self.app(arena, a, b),
+            Binary::Pair | Binary::Pack | Binary::Sum => self.beside(arena, op, a, b),
+            Binary::Ascribe => self.norm(arena, a),
+            Binary::Let => self.bind(arena, a, b),
+            Binary::Unpack => self.unpack(arena, a, b),
+        }
+    }
 
-// A type with a binder: both parts.
-#[cycle(norm)]
-fn under(
-    arena: &mut Arena,
-    es: &[Stored],
-    p: usize,
-    o: Option<usize>,
-    op: Binary,
-    a: usize,
-    b: usize,
-) -> Result<usize, Halt>
-    requires rows { top es.now ≤ cells_in arena.old }
-    requires ctx { over o ≤ cells_in arena.old }
-    requires a { a < cells_in arena.old }
-    requires b { b < cells_in arena.old }
-    requires free { cells_in arena.old + arena.old.left < arena.old.limit }
-    ensures { Ran (rows arena.old es.now) p (gives_under p (binding arena.old o) op (term arena.old a) (term arena.old b)) arena.old arena.new result }
-{
-    let v = norm(arena, es, p, o, a)?;
-    let i = inside(arena, o)?;
-    let w = norm(arena, es, p, Some(i), b)?;
-    Ok(arena.add(Node::Two(p, op, v, w)))
-}
+    // A function: its body.
+    #[cycle(norm)]
+    fn fun(&self, arena: &mut Arena, a: usize) -> Result<usize, Halt>
+        requires here { Within self.now arena.old }
+        requires a { a < cells_in arena.old }
+        requires paid { Paid arena.old }
+        ensures { Applies self.now (λ es p Δ. gives_fun p Δ (term arena.old a)) arena.old arena.new result }
+    {
+        let inner = self.inside(arena)?;
+        let body = inner.norm(arena, a)?;
+        Ok(arena.add(Node::One(self.place, Unary::Fun, body)))
+    }
 
-// Two parts with no binder.
-#[cycle(norm)]
-fn beside(
-    arena: &mut Arena,
-    es: &[Stored],
-    p: usize,
-    o: Option<usize>,
-    op: Binary,
-    a: usize,
-    b: usize,
-) -> Result<usize, Halt>
-    requires rows { top es.now ≤ cells_in arena.old }
-    requires ctx { over o ≤ cells_in arena.old }
-    requires a { a < cells_in arena.old }
-    requires b { b < cells_in arena.old }
-    requires free { cells_in arena.old + arena.old.left < arena.old.limit }
-    ensures { Ran (rows arena.old es.now) p (gives_beside p (binding arena.old o) op (term arena.old a) (term arena.old b)) arena.old arena.new result }
-{
-    let v = norm(arena, es, p, o, a)?;
-    let w = norm(arena, es, p, o, b)?;
-    Ok(arena.add(Node::Two(p, op, v, w)))
-}
+    // A type with a binder: both parts.
+    #[cycle(norm)]
+    fn under(&self, arena: &mut Arena, op: Binary, a: usize, b: usize) -> Result<usize, Halt>
+        requires here { Within self.now arena.old }
+        requires a { a < cells_in arena.old }
+        requires b { b < cells_in arena.old }
+        requires paid { Paid arena.old }
+        ensures { Applies self.now (λ es p Δ. gives_under p Δ op (term arena.old a) (term arena.old b)) arena.old arena.new result }
+    {
+        let domain = self.norm(arena, a)?;
+        let inner = self.inside(arena)?;
+        let body = inner.norm(arena, b)?;
+        Ok(arena.add(Node::Two(self.place, op, domain, body)))
+    }
 
-// One part with no binder.
-#[cycle(norm)]
-fn wrap(
-    arena: &mut Arena,
-    es: &[Stored],
-    p: usize,
-    o: Option<usize>,
-    op: Unary,
-    a: usize,
-) -> Result<usize, Halt>
-    requires rows { top es.now ≤ cells_in arena.old }
-    requires ctx { over o ≤ cells_in arena.old }
-    requires a { a < cells_in arena.old }
-    requires free { cells_in arena.old + arena.old.left < arena.old.limit }
-    ensures { Ran (rows arena.old es.now) p (gives_wrap p (binding arena.old o) op (term arena.old a)) arena.old arena.new result }
-{
-    let v = norm(arena, es, p, o, a)?;
-    Ok(arena.add(Node::One(p, op, v)))
-}
+    // Two parts with no binder.
+    #[cycle(norm)]
+    fn beside(&self, arena: &mut Arena, op: Binary, a: usize, b: usize) -> Result<usize, Halt>
+        requires here { Within self.now arena.old }
+        requires a { a < cells_in arena.old }
+        requires b { b < cells_in arena.old }
+        requires paid { Paid arena.old }
+        ensures { Applies self.now (λ es p Δ. gives_beside p Δ op (term arena.old a) (term arena.old b)) arena.old arena.new result }
+    {
+        let first = self.norm(arena, a)?;
+        let second = self.norm(arena, b)?;
+        Ok(arena.add(Node::Two(self.place, op, first, second)))
+    }
 
-// An application: head, argument, then the form of the head.
-#[cycle(norm)]
-fn app(
-    arena: &mut Arena,
-    es: &[Stored],
-    p: usize,
-    o: Option<usize>,
-    a: usize,
-    b: usize,
-) -> Result<usize, Halt>
-    requires rows { top es.now ≤ cells_in arena.old }
-    requires ctx { over o ≤ cells_in arena.old }
-    requires a { a < cells_in arena.old }
-    requires b { b < cells_in arena.old }
-    requires free { cells_in arena.old + arena.old.left < arena.old.limit }
-    ensures { Ran (rows arena.old es.now) p (gives_app (rows arena.old es.now) p (binding arena.old o) (term arena.old a) (term arena.old b)) arena.old arena.new result }
-{
-    let f = norm(arena, es, p, o, a)?;
-    let v = norm(arena, es, p, o, b)?;
-    apply(arena, es, p, o, f, v)
-}
+    // One part with no binder.
+    #[cycle(norm)]
+    fn wrap(&self, arena: &mut Arena, op: Unary, a: usize) -> Result<usize, Halt>
+        requires here { Within self.now arena.old }
+        requires a { a < cells_in arena.old }
+        requires paid { Paid arena.old }
+        ensures { Applies self.now (λ es p Δ. gives_wrap p Δ op (term arena.old a)) arena.old arena.new result }
+    {
+        let inner = self.norm(arena, a)?;
+        Ok(arena.add(Node::One(self.place, op, inner)))
+    }
 
-// A form used on a form.
-#[cycle(norm)]
-fn apply(
-    arena: &mut Arena,
-    es: &[Stored],
-    p: usize,
-    o: Option<usize>,
-    f: usize,
-    v: usize,
-) -> Result<usize, Halt>
-    requires rows { top es.now ≤ cells_in arena.old }
-    requires ctx { over o ≤ cells_in arena.old }
-    requires f { f < cells_in arena.old }
-    requires v { v < cells_in arena.old }
-    requires free { cells_in arena.old + arena.old.left < arena.old.limit }
-    ensures { Ran (rows arena.old es.now) p (gives_use (rows arena.old es.now) p (binding arena.old o) (term arena.old f) (term arena.old v)) arena.old arena.new result }
-{
-    match part(arena, Unary::Fun, f) {
-        Some(b) => fill(arena, es, p, o, v, b),
-        None => {
-            if neutral(arena, es, o, f) {
-                Ok(arena.add(Node::Two(p, Binary::App, f, v)))
-            } else {
-                Err(Halt::Stuck(p))
+    // An application: head, argument, then the form of the head.
+    #[cycle(norm)]
+    fn app(&self, arena: &mut Arena, a: usize, b: usize) -> Result<usize, Halt>
+        requires here { Within self.now arena.old }
+        requires a { a < cells_in arena.old }
+        requires b { b < cells_in arena.old }
+        requires paid { Paid arena.old }
+        ensures { Applies self.now (λ es p Δ. gives_app es p Δ (term arena.old a) (term arena.old b)) arena.old arena.new result }
+    {
+        let head = self.norm(arena, a)?;
+        let argument = self.norm(arena, b)?;
+        self.apply(arena, head, argument)
+    }
+
+    // A form used on a form.
+    #[cycle(norm)]
+    fn apply(&self, arena: &mut Arena, f: usize, v: usize) -> Result<usize, Halt>
+        requires here { Within self.now arena.old }
+        requires f { f < cells_in arena.old }
+        requires v { v < cells_in arena.old }
+        requires paid { Paid arena.old }
+        ensures { Applies self.now (λ es p Δ. gives_use es p Δ (term arena.old f) (term arena.old v)) arena.old arena.new result }
+    {
+        match part(arena, Unary::Fun, f) {
+            Some(body) => self.fill(arena, &[v], body),
+            None => {
+                self.keep(arena, f)?;
+                Ok(arena.add(Node::Two(self.place, Binary::App, f, v)))
             }
         }
     }
-}
 
-// The form put into a body, and its form.
-#[cycle(norm)]
-fn fill(
-    arena: &mut Arena,
-    es: &[Stored],
-    p: usize,
-    o: Option<usize>,
-    v: usize,
-    b: usize,
-) -> Result<usize, Halt>
-    requires rows { top es.now ≤ cells_in arena.old }
-    requires ctx { over o ≤ cells_in arena.old }
-    requires v { v < cells_in arena.old }
-    requires b { b < cells_in arena.old }
-    requires free { cells_in arena.old + arena.old.left < arena.old.limit }
-    ensures { Ran (rows arena.old es.now) p (gives_filled p (binding arena.old o) (term arena.old v ∷ []) (term arena.old b)) arena.old arena.new result }
-{
-    let q = arena.put(v, b)?;
-    norm(arena, es, p, o, q)
-}
+    // Forms put into a body, and its form.
+    #[cycle(norm)]
+    fn fill(&self, arena: &mut Arena, args: &[usize], b: usize) -> Result<usize, Halt>
+        requires here { Within self.now arena.old }
+        requires args { All (λ i. i < cells_in arena.old) args.now }
+        requires paid { Paid arena.old }
+        ensures { Applies self.now (λ es p Δ. gives_filled p Δ (map (term arena.old) args.now) (term arena.old b)) arena.old arena.new result }
+    {
+        let filled = arena.put(args, b)?;
+        self.norm(arena, filled)
+    }
 
-// A let: its binding's form put into its body.
-#[cycle(norm)]
-fn bind(
-    arena: &mut Arena,
-    es: &[Stored],
-    p: usize,
-    o: Option<usize>,
-    a: usize,
-    b: usize,
-) -> Result<usize, Halt>
-    requires rows { top es.now ≤ cells_in arena.old }
-    requires ctx { over o ≤ cells_in arena.old }
-    requires a { a < cells_in arena.old }
-    requires b { b < cells_in arena.old }
-    requires free { cells_in arena.old + arena.old.left < arena.old.limit }
-    ensures { Ran (rows arena.old es.now) p (gives_let p (binding arena.old o) (term arena.old a) (term arena.old b)) arena.old arena.new result }
-{
-    let v = norm(arena, es, p, o, a)?;
-    fill(arena, es, p, o, v, b)
-}
+    // A let: its binding's form put into its body.
+    #[cycle(norm)]
+    fn bind(&self, arena: &mut Arena, a: usize, b: usize) -> Result<usize, Halt>
+        requires here { Within self.now arena.old }
+        requires a { a < cells_in arena.old }
+        requires b { b < cells_in arena.old }
+        requires paid { Paid arena.old }
+        ensures { Applies self.now (λ es p Δ. gives_let p Δ (term arena.old a) (term arena.old b)) arena.old arena.new result }
+    {
+        let value = self.norm(arena, a)?;
+        self.fill(arena, &[value], b)
+    }
 
-// A part of a pair.
-#[cycle(norm)]
-fn first(
-    arena: &mut Arena,
-    es: &[Stored],
-    p: usize,
-    o: Option<usize>,
-    a: usize,
-) -> Result<usize, Halt>
-    requires rows { top es.now ≤ cells_in arena.old }
-    requires ctx { over o ≤ cells_in arena.old }
-    requires a { a < cells_in arena.old }
-    requires free { cells_in arena.old + arena.old.left < arena.old.limit }
-    ensures { Ran (rows arena.old es.now) p (gives_first (rows arena.old es.now) p (binding arena.old o) (term arena.old a)) arena.old arena.new result }
-{
-    let v = norm(arena, es, p, o, a)?;
-    match parts(arena, Binary::Pair, v) {
-        Some(x) => Ok(x.0),
-        None => {
-            if neutral(arena, es, o, v) {
-                Ok(arena.add(Node::One(p, Unary::Fst, v)))
-            } else {
-                Err(Halt::Stuck(p))
+    // A part of a pair.
+    #[cycle(norm)]
+    fn projection(&self, arena: &mut Arena, side: Side, a: usize) -> Result<usize, Halt>
+        requires here { Within self.now arena.old }
+        requires a { a < cells_in arena.old }
+        requires paid { Paid arena.old }
+        ensures { Applies self.now (λ es p Δ. gives_side side es p Δ (term arena.old a)) arena.old arena.new result }
+    {
+        let whole = self.norm(arena, a)?;
+        match parts(arena, Binary::Pair, whole) {
+            Some(pair) => Ok(side.of(pair)),
+            None => {
+                self.keep(arena, whole)?;
+                Ok(arena.add(Node::One(self.place, side.projection(), whole)))
             }
         }
     }
-}
 
-// A part of a pair.
-#[cycle(norm)]
-fn second(
-    arena: &mut Arena,
-    es: &[Stored],
-    p: usize,
-    o: Option<usize>,
-    a: usize,
-) -> Result<usize, Halt>
-    requires rows { top es.now ≤ cells_in arena.old }
-    requires ctx { over o ≤ cells_in arena.old }
-    requires a { a < cells_in arena.old }
-    requires free { cells_in arena.old + arena.old.left < arena.old.limit }
-    ensures { Ran (rows arena.old es.now) p (gives_second (rows arena.old es.now) p (binding arena.old o) (term arena.old a)) arena.old arena.new result }
-{
-    let v = norm(arena, es, p, o, a)?;
-    match parts(arena, Binary::Pair, v) {
-        Some(x) => Ok(x.1),
-        None => {
-            if neutral(arena, es, o, v) {
-                Ok(arena.add(Node::One(p, Unary::Snd, v)))
-            } else {
-                Err(Halt::Stuck(p))
+    // An unpack: the form of what is unpacked, then its body.
+    #[cycle(norm)]
+    fn unpack(&self, arena: &mut Arena, a: usize, b: usize) -> Result<usize, Halt>
+        requires here { Within self.now arena.old }
+        requires a { a < cells_in arena.old }
+        requires b { b < cells_in arena.old }
+        requires paid { Paid arena.old }
+        ensures { Applies self.now (λ es p Δ. gives_unpack es p Δ (term arena.old a) (term arena.old b)) arena.old arena.new result }
+    {
+        let whole = self.norm(arena, a)?;
+        self.open(arena, whole, b)
+    }
+
+    // A form unpacked in a body.
+    #[cycle(norm)]
+    fn open(&self, arena: &mut Arena, v: usize, b: usize) -> Result<usize, Halt>
+        requires here { Within self.now arena.old }
+        requires v { v < cells_in arena.old }
+        requires b { b < cells_in arena.old }
+        requires paid { Paid arena.old }
+        ensures { Applies self.now (λ es p Δ. gives_open es p Δ (term arena.old v) (term arena.old b)) arena.old arena.new result }
+    {
+        match parts(arena, Binary::Pack, v) {
+            Some((first, second)) => self.fill(arena, &[second, first], b),
+            None => {
+                self.keep(arena, v)?;
+                self.deep(arena, v, b)
             }
         }
     }
-}
 
-// An unpack: the form of what is unpacked, then its body.
-#[cycle(norm)]
-fn unpack(
-    arena: &mut Arena,
-    es: &[Stored],
-    p: usize,
-    o: Option<usize>,
-    a: usize,
-    b: usize,
-) -> Result<usize, Halt>
-    requires rows { top es.now ≤ cells_in arena.old }
-    requires ctx { over o ≤ cells_in arena.old }
-    requires a { a < cells_in arena.old }
-    requires b { b < cells_in arena.old }
-    requires free { cells_in arena.old + arena.old.left < arena.old.limit }
-    ensures { Ran (rows arena.old es.now) p (gives_unpack (rows arena.old es.now) p (binding arena.old o) (term arena.old a) (term arena.old b)) arena.old arena.new result }
-{
-    let v = norm(arena, es, p, o, a)?;
-    open(arena, es, p, o, v, b)
-}
+    // A neutral unpacked: the body's form under two binders.
+    #[cycle(norm)]
+    fn deep(&self, arena: &mut Arena, v: usize, b: usize) -> Result<usize, Halt>
+        requires here { Within self.now arena.old }
+        requires v { v < cells_in arena.old }
+        requires b { b < cells_in arena.old }
+        requires paid { Paid arena.old }
+        ensures { Applies self.now (λ es p Δ. gives_deep p Δ (term arena.old v) (term arena.old b)) arena.old arena.new result }
+    {
+        let outer = self.inside(arena)?;
+        let inner = outer.inside(arena)?;
+        let body = inner.norm(arena, b)?;
+        Ok(arena.add(Node::Two(self.place, Binary::Unpack, v, body)))
+    }
 
-// A form unpacked in a body.
-#[cycle(norm)]
-fn open(
-    arena: &mut Arena,
-    es: &[Stored],
-    p: usize,
-    o: Option<usize>,
-    v: usize,
-    b: usize,
-) -> Result<usize, Halt>
-    requires rows { top es.now ≤ cells_in arena.old }
-    requires ctx { over o ≤ cells_in arena.old }
-    requires v { v < cells_in arena.old }
-    requires b { b < cells_in arena.old }
-    requires free { cells_in arena.old + arena.old.left < arena.old.limit }
-    ensures { Ran (rows arena.old es.now) p (gives_open (rows arena.old es.now) p (binding arena.old o) (term arena.old v) (term arena.old b)) arena.old arena.new result }
-{
-    match parts(arena, Binary::Pack, v) {
-        Some(x) => fill_both(arena, es, p, o, x.1, x.0, b),
-        None => {
-            if neutral(arena, es, o, v) {
-                deep(arena, es, p, o, v, b)
-            } else {
-                Err(Halt::Stuck(p))
+    // A match: the form of what is matched, then an arm.
+    #[cycle(norm)]
+    fn choose(&self, arena: &mut Arena, a: usize, f: usize, g: usize) -> Result<usize, Halt>
+        requires here { Within self.now arena.old }
+        requires a { a < cells_in arena.old }
+        requires f { f < cells_in arena.old }
+        requires g { g < cells_in arena.old }
+        requires paid { Paid arena.old }
+        ensures { Applies self.now (λ es p Δ. gives_match es p Δ (term arena.old a) (term arena.old f) (term arena.old g)) arena.old arena.new result }
+    {
+        let whole = self.norm(arena, a)?;
+        self.pick(arena, whole, f, g)
+    }
+
+    // The arm of a form, or both.
+    #[cycle(norm)]
+    fn pick(&self, arena: &mut Arena, v: usize, f: usize, g: usize) -> Result<usize, Halt>
+        requires here { Within self.now arena.old }
+        requires v { v < cells_in arena.old }
+        requires f { f < cells_in arena.old }
+        requires g { g < cells_in arena.old }
+        requires paid { Paid arena.old }
+        ensures { Applies self.now (λ es p Δ. gives_pick es p Δ (term arena.old v) (term arena.old f) (term arena.old g)) arena.old arena.new result }
+    {
+        match (part(arena, Unary::Inl, v), part(arena, Unary::Inr, v)) {
+            (Some(left), _) => self.fill(arena, &[left], f),
+            (None, Some(right)) => self.fill(arena, &[right], g),
+            (None, None) => {
+                self.keep(arena, v)?;
+                self.arms(arena, v, f, g)
             }
         }
     }
-}
 
-// Two forms put into a body, and its form.
-#[cycle(norm)]
-fn fill_both(
-    arena: &mut Arena,
-    es: &[Stored],
-    p: usize,
-    o: Option<usize>,
-    v: usize,
-    w: usize,
-    b: usize,
-) -> Result<usize, Halt>
-    requires rows { top es.now ≤ cells_in arena.old }
-    requires ctx { over o ≤ cells_in arena.old }
-    requires v { v < cells_in arena.old }
-    requires w { w < cells_in arena.old }
-    requires b { b < cells_in arena.old }
-    requires free { cells_in arena.old + arena.old.left < arena.old.limit }
-    ensures { Ran (rows arena.old es.now) p (gives_filled p (binding arena.old o) (term arena.old v ∷ (term arena.old w ∷ [])) (term arena.old b)) arena.old arena.new result }
-{
-    let q = arena.put_both(v, w, b)?;
-    norm(arena, es, p, o, q)
-}
-
-// A neutral unpacked: the body's form under two binders.
-#[cycle(norm)]
-fn deep(
-    arena: &mut Arena,
-    es: &[Stored],
-    p: usize,
-    o: Option<usize>,
-    v: usize,
-    b: usize,
-) -> Result<usize, Halt>
-    requires rows { top es.now ≤ cells_in arena.old }
-    requires ctx { over o ≤ cells_in arena.old }
-    requires v { v < cells_in arena.old }
-    requires b { b < cells_in arena.old }
-    requires free { cells_in arena.old + arena.old.left < arena.old.limit }
-    ensures { Ran (rows arena.old es.now) p (gives_deep p (binding arena.old o) (term arena.old v) (term arena.old b)) arena.old arena.new result }
-{
-    let i = inside(arena, o)?;
-    let j = inside(arena, Some(i))?;
-    let w = norm(arena, es, p, Some(j), b)?;
-    Ok(arena.add(Node::Two(p, Binary::Unpack, v, w)))
-}
-
-// A match: the form of what is matched, then an arm.
-#[cycle(norm)]
-fn choose(
-    arena: &mut Arena,
-    es: &[Stored],
-    p: usize,
-    o: Option<usize>,
-    a: usize,
-    f: usize,
-    g: usize,
-) -> Result<usize, Halt>
-    requires rows { top es.now ≤ cells_in arena.old }
-    requires ctx { over o ≤ cells_in arena.old }
-    requires a { a < cells_in arena.old }
-    requires f { f < cells_in arena.old }
-    requires g { g < cells_in arena.old }
-    requires free { cells_in arena.old + arena.old.left < arena.old.limit }
-    ensures { Ran (rows arena.old es.now) p (gives_match (rows arena.old es.now) p (binding arena.old o) (term arena.old a) (term arena.old f) (term arena.old g)) arena.old arena.new result }
-{
-    let v = norm(arena, es, p, o, a)?;
-    pick(arena, es, p, o, v, f, g)
-}
-
-// The arm of a form.
-#[cycle(norm)]
-fn pick(
-    arena: &mut Arena,
-    es: &[Stored],
-    p: usize,
-    o: Option<usize>,
-    v: usize,
-    f: usize,
-    g: usize,
-) -> Result<usize, Halt>
-    requires rows { top es.now ≤ cells_in arena.old }
-    requires ctx { over o ≤ cells_in arena.old }
-    requires v { v < cells_in arena.old }
-    requires f { f < cells_in arena.old }
-    requires g { g < cells_in arena.old }
-    requires free { cells_in arena.old + arena.old.left < arena.old.limit }
-    ensures { Ran (rows arena.old es.now) p (gives_pick (rows arena.old es.now) p (binding arena.old o) (term arena.old v) (term arena.old f) (term arena.old g)) arena.old arena.new result }
-{
-    match part(arena, Unary::Inl, v) {
-        Some(a) => fill(arena, es, p, o, a, f),
-        None => right(arena, es, p, o, v, f, g),
+    // A neutral matched: both arms' forms.
+    #[cycle(norm)]
+    fn arms(&self, arena: &mut Arena, v: usize, f: usize, g: usize) -> Result<usize, Halt>
+        requires here { Within self.now arena.old }
+        requires v { v < cells_in arena.old }
+        requires f { f < cells_in arena.old }
+        requires g { g < cells_in arena.old }
+        requires paid { Paid arena.old }
+        ensures { Applies self.now (λ es p Δ. gives_arms p Δ (term arena.old v) (term arena.old f) (term arena.old g)) arena.old arena.new result }
+    {
+        let left_site = self.inside(arena)?;
+        let left = left_site.norm(arena, f)?;
+        let right_site = self.inside(arena)?;
+        let right = right_site.norm(arena, g)?;
+        Ok(arena.add(Node::Match(self.place, v, left, right)))
     }
-}
-
-// The second arm, or both.
-#[cycle(norm)]
-fn right(
-    arena: &mut Arena,
-    es: &[Stored],
-    p: usize,
-    o: Option<usize>,
-    v: usize,
-    f: usize,
-    g: usize,
-) -> Result<usize, Halt>
-    requires rows { top es.now ≤ cells_in arena.old }
-    requires ctx { over o ≤ cells_in arena.old }
-    requires v { v < cells_in arena.old }
-    requires f { f < cells_in arena.old }
-    requires g { g < cells_in arena.old }
-    requires free { cells_in arena.old + arena.old.left < arena.old.limit }
-    ensures { Ran (rows arena.old es.now) p (gives_right (rows arena.old es.now) p (binding arena.old o) (term arena.old v) (term arena.old f) (term arena.old g)) arena.old arena.new result }
-{
-    match part(arena, Unary::Inr, v) {
-        Some(b) => fill(arena, es, p, o, b, g),
-        None => {
-            if neutral(arena, es, o, v) {
-                arms(arena, es, p, o, v, f, g)
-            } else {
-                Err(Halt::Stuck(p))
-            }
-        }
-    }
-}
-
-// A neutral matched: both arms' forms.
-#[cycle(norm)]
-fn arms(
-    arena: &mut Arena,
-    es: &[Stored],
-    p: usize,
-    o: Option<usize>,
-    v: usize,
-    f: usize,
-    g: usize,
-) -> Result<usize, Halt>
-    requires rows { top es.now ≤ cells_in arena.old }
-    requires ctx { over o ≤ cells_in arena.old }
-    requires v { v < cells_in arena.old }
-    requires f { f < cells_in arena.old }
-    requires g { g < cells_in arena.old }
-    requires free { cells_in arena.old + arena.old.left < arena.old.limit }
-    ensures { Ran (rows arena.old es.now) p (gives_arms p (binding arena.old o) (term arena.old v) (term arena.old f) (term arena.old g)) arena.old arena.new result }
-{
-    let i = inside(arena, o)?;
-    let x = norm(arena, es, p, Some(i), f)?;
-    let j = inside(arena, o)?;
-    let y = norm(arena, es, p, Some(j), g)?;
-    Ok(arena.add(Node::Match(p, v, x, y)))
 }
