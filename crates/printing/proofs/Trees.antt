@@ -13,7 +13,6 @@ use Rattle.grammar.specs.Grammar.{Name}
 use Rattle.grammar.specs.Text.{binder_name, sort_text, text}
 use Rattle.printing.specs.Layout.{shown, Piece, lead_text, part_text, two_closes, one_piece, first_piece, second_piece, match_piece, arm_piece}
 use Rattle.printing.specs.declared.forms.Arm.TheVariants as arm
-use Rattle.printing.proofs.Puts.{end, more, Spells}
 
 two_add : (d : ℕ) → 2 + d ≡ suc (suc d)
 two_add d = omega arith
@@ -107,36 +106,32 @@ module _ (es : List Name) (d : ℕ) where
       ∙ ap₂ (match_form d (shown es (0 + d) E)) (deep_one F) (deep_one G)
 
 module _ (es : List Name) (d : ℕ) {a : Arena} {id : ℕ} where
-  pub sort_is : {p s : ℕ} → Read a id (Sort p s) → Spells (shown es d (term a id)) (end (sort_text s))
+  pub sort_is : {p s : ℕ} → Read a id (Sort p s) → shown es d (term a id) ≡ sort_text s
   unfolding shown
-  sort_is r = record { is = ap (shown es d) r.is }
+  sort_is r = ap (shown es d) r.is
 
-  pub local_is : {p k : ℕ} → Read a id (Local p k) → (m : ℕ) → m ≡ d - (k + 1) → Spells (shown es d (term a id)) (end (binder_name m))
+  pub local_is : {p k : ℕ} → Read a id (Local p k) → (m : ℕ) → m ≡ d - (k + 1) → shown es d (term a id) ≡ binder_name m
   unfolding shown
   local_is {p} {k} r m e =
       let f : d - suc k ≡ m = omega arith in
-      record { is = ap (shown es d) r.is ∙ ap binder_name f }
+      ap (shown es d) r.is ∙ ap binder_name f
 
-  pub entry_is : {p j : ℕ} → Read a id (Entry p j) → (name : List ℕ) → name ≡ get_or es j [] → Spells (shown es d (term a id)) (end name)
+  pub entry_is : {p j : ℕ} → Read a id (Entry p j) → (name : List ℕ) → name ≡ get_or es j [] → shown es d (term a id) ≡ name
   unfolding shown
-  entry_is r name e = record { is = ap (shown es d) r.is ∙ sym e }
+  entry_is r name e = ap (shown es d) r.is ∙ sym e
 
-  pub one_is : {p x : ℕ} {u : Unary} → Read a id (One p u x) → (q : Piece) → q ≡ one_piece u → Spells (shown es d (term a id)) (more (part_text q es d (term a x)) (end (codes ")")))
+  pub one_is : {p x : ℕ} {u : Unary} → Read a id (One p u x) → (q : Piece) → q ≡ one_piece u → shown es d (term a id) ≡ part_text q es d (term a x) ++ codes ")"
   one_is {p} {x} {u} r q e =
-      record { is = ap (shown es d) r.is ∙ one_shown es d p u (term a x) ∙ ap (λ w. part_text w es d (term a x) ++ codes ")") (sym e) }
+      ap (shown es d) r.is ∙ one_shown es d p u (term a x) ∙ ap (λ w. part_text w es d (term a x) ++ codes ")") (sym e)
 
-  pub two_is : {p x y : ℕ} {b : Binary} → Read a id (Two p b x y) → (q s : Piece) (k : List ℕ) → q ≡ first_piece b → s ≡ second_piece b → k ≡ two_closes b → Spells (shown es d (term a id)) (more (part_text q es d (term a x)) (more (part_text s es d (term a y)) (end k)))
+  pub two_is : {p x y : ℕ} {b : Binary} → Read a id (Two p b x y) → (q s : Piece) (k : List ℕ) → q ≡ first_piece b → s ≡ second_piece b → k ≡ two_closes b → shown es d (term a id) ≡ part_text q es d (term a x) ++ (part_text s es d (term a y) ++ k)
   two_is {p} {x} {y} {b} r q s k e f g =
-      record {
-        is = ap (shown es d) r.is ∙ two_shown es d p b (term a x) (term a y)
-            ∙ ap (λ w. part_text w es d (term a x) ++ (part_text (second_piece b) es d (term a y) ++ two_closes b)) (sym e)
-            ∙ ap₂ (λ w v. part_text q es d (term a x) ++ (part_text w es d (term a y) ++ v)) (sym f) (sym g);
-      }
+      ap (shown es d) r.is ∙ two_shown es d p b (term a x) (term a y)
+      ∙ ap (λ w. part_text w es d (term a x) ++ (part_text (second_piece b) es d (term a y) ++ two_closes b)) (sym e)
+      ∙ ap₂ (λ w v. part_text q es d (term a x) ++ (part_text w es d (term a y) ++ v)) (sym f) (sym g)
 
-  pub match_is : {p x y z : ℕ} → Read a id (Match p x y z) → (q s t : Piece) → q ≡ match_piece → s ≡ arm_piece arm.Inl → t ≡ arm_piece arm.Inr → Spells (shown es d (term a id)) (more (part_text q es d (term a x)) (more (codes " with") (more (part_text s es d (term a y)) (more (part_text t es d (term a z)) (end (codes " end)"))))))
+  pub match_is : {p x y z : ℕ} → Read a id (Match p x y z) → (q s t : Piece) → q ≡ match_piece → s ≡ arm_piece arm.Inl → t ≡ arm_piece arm.Inr → shown es d (term a id) ≡ part_text q es d (term a x) ++ (codes " with" ++ (part_text s es d (term a y) ++ (part_text t es d (term a z) ++ codes " end)")))
   match_is {p} {x} {y} {z} r q s t e f g =
-      record {
-        is = ap (shown es d) r.is ∙ match_shown es d p (term a x) (term a y) (term a z)
-            ∙ ap (λ w. part_text w es d (term a x) ++ (codes " with" ++ (part_text (arm_piece arm.Inl) es d (term a y) ++ (part_text (arm_piece arm.Inr) es d (term a z) ++ codes " end)")))) (sym e)
-            ∙ ap₂ (λ w v. part_text q es d (term a x) ++ (codes " with" ++ (part_text w es d (term a y) ++ (part_text v es d (term a z) ++ codes " end)")))) (sym f) (sym g);
-      }
+      ap (shown es d) r.is ∙ match_shown es d p (term a x) (term a y) (term a z)
+      ∙ ap (λ w. part_text w es d (term a x) ++ (codes " with" ++ (part_text (arm_piece arm.Inl) es d (term a y) ++ (part_text (arm_piece arm.Inr) es d (term a z) ++ codes " end)")))) (sym e)
+      ∙ ap₂ (λ w v. part_text q es d (term a x) ++ (codes " with" ++ (part_text w es d (term a y) ++ (part_text v es d (term a z) ++ codes " end)")))) (sym f) (sym g)
