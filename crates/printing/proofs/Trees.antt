@@ -20,8 +20,8 @@ two_add d = omega arith
 one_grouped : (a n b E c : List ℕ) → a ++ n ++ b ++ E ++ c ≡ a ++ (n ++ b) ++ E ++ c
 one_grouped a n b E c = simp append_assoc
 
-two_grouped : (a n b E l F c : List ℕ) → a ++ n ++ b ++ E ++ l ++ F ++ c ≡ a ++ (n ++ b) ++ E ++ (l ++ F ++ c)
-two_grouped a n b E l F c = simp append_assoc
+bound_grouped : (a n b E l F c : List ℕ) → a ++ n ++ b ++ E ++ l ++ F ++ c ≡ a ++ (n ++ b) ++ E ++ (l ++ F ++ c)
+bound_grouped a n b E l F c = simp append_assoc
 
 unpack_grouped : (a n m o b E l F c : List ℕ) → a ++ n ++ m ++ o ++ b ++ E ++ l ++ F ++ c ≡ a ++ ((n ++ (m ++ o)) ++ b) ++ E ++ (l ++ F ++ c)
 unpack_grouped a n m o b E l F c = simp append_assoc
@@ -53,6 +53,16 @@ module _ (es : List Name) (d : ℕ) where
   unfolding shown
   deep_two E = ap (λ m. text es m E) (sym (two_add d))
 
+  -- one binder stands over the second part
+  bound_shown : (a b l : List ℕ) (E F : Term) → a ++ binder_name d ++ b ++ text es d E ++ l ++ text es (suc d) F ++ codes ")" ≡ a ++ (binder_name d ++ b) ++ shown es (0 + d) E ++ (l ++ shown es (1 + d) F ++ codes ")")
+  bound_shown a b l E F =
+      bound_grouped a (binder_name d) b (text es d E) l (text es (suc d) F) (codes ")")
+      ∙ ap₂ (λ x y. a ++ (binder_name d ++ b) ++ x ++ (l ++ y ++ codes ")")) (deep_none E) (deep_one F)
+
+  -- no binder stands over the second part
+  free_shown : (a l c : List ℕ) (E F : Term) → a ++ text es d E ++ l ++ text es d F ++ c ≡ a ++ shown es (0 + d) E ++ (l ++ shown es (0 + d) F ++ c)
+  free_shown a l c E F = ap₂ (λ x y. a ++ x ++ l ++ y ++ c) (deep_none E) (deep_none F) ∙ simp append_assoc
+
   one_shown : (p : ℕ) (u : Unary) (E : Term) → shown es d (unary p u E) ≡ one_form d u (shown es (binds u + d) E)
   unfolding shown
   one_shown p Fun E =
@@ -64,39 +74,19 @@ module _ (es : List Name) (d : ℕ) where
 
   two_shown : (p : ℕ) (b : Binary) (E F : Term) → shown es d (binary p b E F) ≡ two_form d b (shown es (0 + d) E) (shown es (binds_last b + d) F)
   unfolding shown
-  two_shown p Pi E F =
-      two_grouped (codes "(Pi (") (binder_name d) (codes " : ") (text es d E) (codes "), ") (text es (suc d) F) (codes ")")
-      ∙ ap₂ (two_form d Pi) (deep_none E) (deep_one F)
-  two_shown p Sigma E F =
-      two_grouped (codes "(Sigma (") (binder_name d) (codes " : ") (text es d E) (codes "), ") (text es (suc d) F) (codes ")")
-      ∙ ap₂ (two_form d Sigma) (deep_none E) (deep_one F)
-  two_shown p Exists E F =
-      two_grouped (codes "(exists (") (binder_name d) (codes " : ") (text es d E) (codes "), ") (text es (suc d) F) (codes ")")
-      ∙ ap₂ (two_form d Exists) (deep_none E) (deep_one F)
-  two_shown p Typed E F =
-      two_grouped (codes "(fun (") (binder_name d) (codes " : ") (text es d E) (codes ") => ") (text es (suc d) F) (codes ")")
-      ∙ ap₂ (two_form d Typed) (deep_none E) (deep_one F)
-  two_shown p App E F =
-      two_grouped (codes "(") [] [] (text es d E) (codes " ") (text es d F) (codes ")")
-      ∙ ap₂ (two_form d App) (deep_none E) (deep_none F)
-  two_shown p Pair E F =
-      two_grouped (codes "(") [] [] (text es d E) (codes ", ") (text es d F) (codes ")")
-      ∙ ap₂ (two_form d Pair) (deep_none E) (deep_none F)
-  two_shown p Pack E F =
-      two_grouped (codes "{") [] [] (text es d E) (codes ", ") (text es d F) (codes "}")
-      ∙ ap₂ (two_form d Pack) (deep_none E) (deep_none F)
+  two_shown p Pi E F = bound_shown (codes "(Pi (") (codes " : ") (codes "), ") E F
+  two_shown p Sigma E F = bound_shown (codes "(Sigma (") (codes " : ") (codes "), ") E F
+  two_shown p Exists E F = bound_shown (codes "(exists (") (codes " : ") (codes "), ") E F
+  two_shown p Typed E F = bound_shown (codes "(fun (") (codes " : ") (codes ") => ") E F
+  two_shown p App E F = free_shown (codes "(") (codes " ") (codes ")") E F
+  two_shown p Pair E F = free_shown (codes "(") (codes ", ") (codes ")") E F
+  two_shown p Pack E F = free_shown (codes "{") (codes ", ") (codes "}") E F
   two_shown p Unpack E F =
       unpack_grouped (codes "(let {") (binder_name d) (codes ", ") (binder_name (suc d)) (codes "} := ") (text es d E) (codes " in ") (text es (suc (suc d)) F) (codes ")")
       ∙ ap₂ (two_form d Unpack) (deep_none E) (deep_two F)
-  two_shown p Sum E F =
-      two_grouped (codes "(") [] [] (text es d E) (codes " + ") (text es d F) (codes ")")
-      ∙ ap₂ (two_form d Sum) (deep_none E) (deep_none F)
-  two_shown p Ascribe E F =
-      two_grouped (codes "(") [] [] (text es d E) (codes " : ") (text es d F) (codes ")")
-      ∙ ap₂ (two_form d Ascribe) (deep_none E) (deep_none F)
-  two_shown p Let E F =
-      two_grouped (codes "(let ") (binder_name d) (codes " := ") (text es d E) (codes " in ") (text es (suc d) F) (codes ")")
-      ∙ ap₂ (two_form d Let) (deep_none E) (deep_one F)
+  two_shown p Sum E F = free_shown (codes "(") (codes " + ") (codes ")") E F
+  two_shown p Ascribe E F = free_shown (codes "(") (codes " : ") (codes ")") E F
+  two_shown p Let E F = bound_shown (codes "(let ") (codes " := ") (codes " in ") E F
 
   match_shown : (p : ℕ) (E F G : Term) → shown es d (choice p E F G) ≡ match_form d (shown es (0 + d) E) (shown es (1 + d) F) (shown es (1 + d) G)
   unfolding shown
