@@ -1,12 +1,7 @@
--- One text written after another.
-use Rattle.std.proofs.Common.{◌≡◌, ℕ, ◌+◌, ◌<◌, ◌≤◌, List, [], ◌∷◌, ◌++◌, length, Some, None, codes, Result, sym, ap, ◌∙◌, subst, append_assoc, append-nil}
-use Rattle.std.proofs.lemmas.Bool.{cond-true, cond-false, lt-ltb, le-ltb}
-use Rattle.script.specs.declared.statement.Statement.{Statement}
-use Rattle.script.specs.declared.statement.ScriptFault.{ScriptFault}
-use Rattle.script.specs.Faults.{token_check}
-use Rattle.script.specs.Statements.{statements_from}
-use Rattle.script.specs.View.{StatementTaken}
-use Rattle.report.specs.Outline.{Appended, line, answer_text, place_text, answer_lines, lines, all_lines, outline}
+-- One text written after another, and a text that is read.
+use Rattle.std.proofs.Common.{◌≡◌, ℕ, List, [], ◌∷◌, ◌++◌, take, Some, None, IfSome, Option, Result, Ok, Err, OnOk, subst, ap, ◌∙◌, append_assoc, arith}
+use Rattle.std.specs.Option.{option_map}
+use Rattle.report.specs.Lines.{Appended, line}
 
 pub then_more : {i a j b k : List ℕ} → Appended i a j → Appended j b k → Appended i (a ++ b) k
 then_more {i} {a} {j} {b} {k} e f = record { whole = f.whole ∙ ap (λ l. l ++ b) e.whole ∙ append_assoc i a b }
@@ -15,24 +10,14 @@ pub as_line : (key value : List ℕ) {i j : List ℕ} → Appended i (key ++ (va
 unfolding line
 as_line key value e = e
 
-pub line_of : (key v w : List ℕ) {i j : List ℕ} → v ≡ w → Appended i (line key v) j → Appended i (line key w) j
-line_of key v w {i} {j} e h = subst (λ x. Appended i (line key x) j) e h
+-- the known bytes up to a limit, read to their end
+pub read_up_to : (known left : Option (List ℕ)) (k n : ℕ) (was is : List ℕ) → left ≡ known → k ≡ n → was ≡ [] → IfSome (option_map (take k) left) (λ xs. is ≡ was ++ xs) → IfSome known (λ bytes. is ≡ take n bytes)
+read_up_to (Some xs) (Some ys) k n was is e f w h = h ∙ ap (λ l. l ++ take k ys) w ∙ ap (λ m. take m ys) f ∙ ap (take n) (cc)
+read_up_to None left k n was is e f w h = tt
+read_up_to (Some xs) None k n was is e f w h = absurd (let z : ◌≡◌ {A = ℕ} 0 1 = cc in omega arith)
 
-pub answered : (st : Statement) (r : Result (Unit {0}) ScriptFault) {i j : List ℕ} → r ≡ token_check st → Appended i (line (codes "answer=") (answer_text r) ++ line (codes "place=") (place_text r)) j → Appended i (answer_lines st) j
-answered st r {i} {j} e h = subst (λ x. Appended i (line (codes "answer=") (answer_text x) ++ line (codes "place=") (place_text x)) j) e h
-
-pub too_long : (s was is : List ℕ) → 1000000 < length s → was ≡ [] → Appended was (line (codes "answer=") (codes "13")) is → is ≡ outline s
-unfolding outline
-too_long s was is h n e = e.whole ∙ ap (λ l. l ++ line (codes "answer=") (codes "13")) n ∙ sym (cond-true _ _ _ (lt-ltb _ _ h))
-
--- one statement more
-pub told : (s s' : List ℕ) (n from to : ℕ) (st : Statement) (was is whole : List ℕ) → s' ≡ s → StatementTaken s' from to (Some st) → Appended was (lines n s st) is → was ++ all_lines n s (statements_from s from) ≡ whole → is ++ all_lines (n + 1) s (statements_from s to) ≡ whole
-told s s' n from to st was is whole e h a w =
-    ap (λ l. l ++ all_lines (n + 1) s (statements_from s to)) a.whole ∙ append_assoc was (lines n s st) _
-    ∙ ap (λ sts. was ++ all_lines n s sts) (sym (subst (λ x. statements_from x from ≡ st ∷ statements_from x to) e h.0)) ∙ w
-
-pub told_all : (s s' : List ℕ) (n from to : ℕ) (was : List ℕ) → length s ≤ 1000000 → s' ≡ s → StatementTaken s' from to None → was ++ all_lines n s (statements_from s from) ≡ all_lines 1 s (statements_from s 0) → was ≡ outline s
-unfolding outline
-told_all s s' n from to was l e h w =
-    sym (append-nil was) ∙ ap (λ sts. was ++ all_lines n s sts) (sym (subst (λ x. statements_from x from ≡ []) e h.0)) ∙ w
-    ∙ sym (cond-false _ _ _ (le-ltb _ _ l))
+-- what is told of the bytes that were read was written
+pub ran : {V E : Type 0} (r : Result (Unit {0}) E) (known : Option (List ℕ)) (n : ℕ) (script : List ℕ) (text : V) (Told : List ℕ → V → Type 0) (Puts : V → Type 0) → IfSome known (λ bytes. script ≡ take n bytes) → Told script text → OnOk r (Puts text) → OnOk r (IfSome known (λ bytes. (x : V) × Told (take n bytes) x × Puts x))
+ran (Ok u) (Some bytes) n script text Told Puts e t p = (text, subst (λ s. Told s text) e t, p)
+ran (Ok u) None n script text Told Puts e t p = tt
+ran (Err x) known n script text Told Puts e t p = tt

@@ -1,7 +1,7 @@
 use Rattle.std.proofs.Common.{[], ◌∷◌, refl}
 use Rattle.std.proofs.lemmas.Slice.{pushed}
 use Rattle.report.proofs.Texts.{then_more, as_line}
-use Rattle.report.proofs.lines.text_line.Goals as goal
+use Rattle.report.proofs.lines.Lines.text.Goals as goal
 
 pub returns : goal.returns
 returns c =
