@@ -32,21 +32,26 @@ fn pull(reader: &mut Reader) -> Option<Lexeme>
 fn is_mark(kind: Kind, m: Mark) -> bool
     ensures { (x : List ℕ) → result ≡ is_token m (as_token kind x) }
 {
-    match kind {
-        Kind::Fixed(k) => k.code() == m.code(),
-        Kind::Name | Kind::Number(_) | Kind::First(_) | Kind::NoToken => false,
-    }
+    kind == Kind::Fixed(m)
 }
 
 // Whether a lexeme begins an atom.
 fn begins_atom(kind: Kind) -> bool
     ensures { (x : List ℕ) → result ≡ begins_token (as_token kind x) }
 {
-    match kind {
-        Kind::Name => true,
-        Kind::Fixed(k) => k.code() < 7,
-        Kind::Number(_) | Kind::First(_) | Kind::NoToken => false,
-    }
+    matches!(
+        kind,
+        Kind::Name
+            | Kind::Fixed(
+                Mark::TypeWord
+                    | Mark::PropWord
+                    | Mark::KindWord
+                    | Mark::SortWord
+                    | Mark::Opens
+                    | Mark::OpensBrace
+                    | Mark::MatchWord
+            )
+    )
 }
 
 impl<'a> Ahead<'a> {
