@@ -1,10 +1,9 @@
 -- A script told statement by statement.
-use Rattle.std.proofs.Common.{◌≡◌, ℕ, ◌+◌, ◌<◌, ◌≤◌, Bool, true, false, cond, nat_lt, List, [], ◌∷◌, ◌++◌, length, Some, None, Result, IfOk, Ok, Err, sym, refl, ap, ap₂, ◌∙◌, subst, append_assoc, append-nil, codes, decimal, arith}
+use Rattle.std.proofs.Common.{◌≡◌, ℕ, ◌+◌, ◌<◌, ◌≤◌, Bool, true, false, cond, nat_lt, List, [], ◌∷◌, ◌++◌, length, Result, IfOk, Ok, Err, sym, refl, ap, ap₂, ◌∙◌, subst, append_assoc, append-nil, codes, decimal, arith}
 use Rattle.std.proofs.lemmas.Fmt.{decimal_digit, decimal_step}
 use Rattle.std.proofs.lemmas.Bool.{ltb-true, ltb-false}
 use Rattle.script.specs.declared.statement.Statement.{Statement}
 use Rattle.script.specs.Statements.{statements_from}
-use Rattle.script.specs.View.{StatementTaken}
 use Rattle.report.specs.declared.outline.Outline.{Outline}
 use Rattle.report.specs.declared.reprint.Reprint.{Reprint}
 use Rattle.report.specs.Lines.{Appended, line}
@@ -18,18 +17,17 @@ module _ {T : Type 0} (tells : T → ℕ → Statement → List ℕ → T → Ty
   Continues teller n sts was Whole = (text : List ℕ) → TellsAll tells teller n sts text → Whole (was ++ text)
 
   -- one statement more
-  pub told : (s s' : List ℕ) (n from to : ℕ) (st : Statement) (teller after : T) (was is : List ℕ) (Whole : List ℕ → Type 0) → s' ≡ s → StatementTaken s' from to (Some st) → TellsOne tells teller n st was is after → Continues teller n (statements_from s from) was Whole → Continues after (n + 1) (statements_from s to) is Whole
-  told s s' n from to st teller after was is Whole e h one more = λ text x.
-      let next : statements_from s from ≡ st ∷ statements_from s to = subst (λ y. statements_from y from ≡ st ∷ statements_from y to) e h.0 in
-      let all : TellsAll tells teller n (statements_from s from) (one.text ++ text) =
-      subst (λ sts. TellsAll tells teller n sts (one.text ++ text)) (sym next) (one.text, text, after, one.told, x, refl) in
-      subst Whole (sym (ap (λ l. l ++ text) one.put.whole ∙ append_assoc was one.text text)) (more (one.text ++ text) all)
+  pub told : (sts rest : List Statement) (i count next : ℕ) (st : Statement) (teller after : T) (was is : List ℕ) (Whole : List ℕ → Type 0) → sts ≡ st ∷ rest → i ≡ count → next ≡ count + 1 → TellsOne tells teller (i + 1) st was is after → Continues teller (count + 1) sts was Whole → Continues after (next + 1) rest is Whole
+  told sts rest i count next st teller after was is Whole e f h one more = λ text x.
+      let n : next + 1 ≡ (i + 1) + 1 = omega arith in
+      let left : TellsAll tells after ((i + 1) + 1) rest text = subst (λ j. TellsAll tells after j rest text) n x in
+      let all : TellsAll tells teller (i + 1) sts (one.text ++ text) = subst (λ y. TellsAll tells teller (i + 1) y (one.text ++ text)) (sym e) (one.text, text, after, one.told, left, refl) in
+      subst Whole (sym (ap (λ l. l ++ text) one.put.whole ∙ append_assoc was one.text text))
+      (more (one.text ++ text) (subst (λ j. TellsAll tells teller (j + 1) sts (one.text ++ text)) f all))
 
   -- no statement more
-  pub told_all : (s s' : List ℕ) (n from to : ℕ) (teller : T) (was : List ℕ) (Whole : List ℕ → Type 0) → s' ≡ s → StatementTaken s' from to None → Continues teller n (statements_from s from) was Whole → Whole was
-  told_all s s' n from to teller was Whole e h more =
-      let none : statements_from s from ≡ [] = subst (λ y. statements_from y from ≡ []) e h.0 in
-      subst Whole (append-nil was) (more [] (subst (λ sts. TellsAll tells teller n sts []) (sym none) refl))
+  pub told_all : (sts : List Statement) (n : ℕ) (teller : T) (was : List ℕ) (Whole : List ℕ → Type 0) → sts ≡ [] → Continues teller n sts was Whole → Whole was
+  told_all sts n teller was Whole e more = subst Whole (append-nil was) (more [] (subst (λ y. TellsAll tells teller n y []) (sym e) refl))
 
 thirteen : decimal 13 ≡ codes "13"
 thirteen = decimal_step 13 (omega arith) (omega arith) ∙ ap (λ l. l ++ 51 ∷ []) (decimal_digit 1 (omega arith))

@@ -37,11 +37,8 @@ pub(crate) fn told<T: Teller + Drop>(
         lines.number(b"answer=", TOO_LONG)?;
         return Ok(lines.bytes);
     }
-    let mut reader = Reader::new(script);
-    let mut number = 1usize;
-    while let Some(st) = reader.next_statement() {
-        teller.tell(&mut lines, number, &st)?;
-        number += 1;
+    for (i, st) in Reader::new(script).statements().enumerate() {
+        teller.tell(&mut lines, i + 1, &st)?;
     }
     Ok(lines.bytes)
 }
