@@ -1,15 +1,11 @@
 //! Scripts, and the terms that are read from them, printed.
+use crate::case::{Case, blanks, first_wrong};
 use report::reprint::reprint_text;
 use std::alloc::{AllocError, Global};
 use std::test::Fail;
 
 // Four tables, since one constant may have 10,000 expressions.
-struct Case {
-    script: &'static [u8],
-    lines: &'static [u8],
-}
-
-static CASES_A: [Case; 21] = [
+static CASES_A: [Case<'static>; 21] = [
     // Nothing to read.
     Case {
         script: b"",
@@ -133,7 +129,7 @@ static CASES_A: [Case; 21] = [
     },
 ];
 
-static CASES_B: [Case; 21] = [
+static CASES_B: [Case<'static>; 21] = [
     Case {
         script: b"check Type -> fun x => x\ncheck Pi (x : Type), x -> x",
         lines: b"statement=1\nanswer=0\nat=-\nterm=(Pi (_0 : Type), (fun _1 => _1))\n\
@@ -247,7 +243,7 @@ static CASES_B: [Case; 21] = [
     },
 ];
 
-static CASES_C: [Case; 21] = [
+static CASES_C: [Case<'static>; 21] = [
     Case {
         script: b"axiom x : Type\ncheck fun (x : x) => x\ncheck Pi (x : x), x\n\
             check let x := x in x\ncheck let x : x := x in x\ncheck let {x, y} := x in y x",
@@ -399,7 +395,7 @@ static CASES_C: [Case; 21] = [
     },
 ];
 
-static CASES_D: [Case; 20] = [
+static CASES_D: [Case<'static>; 20] = [
     Case {
         script: b"def x Type\ndef x => Type\ndef x , Type\ndef x\n\n-- the end\n",
         lines: b"statement=1\nanswer=3\nat=6\nterm=-\n\
@@ -579,19 +575,12 @@ static CASES_D: [Case; 20] = [
 
 #[test]
 fn reprints(rt: HostRuntime) -> Result<(), Fail> {
-    for c in CASES_A.iter().chain(CASES_B.iter()) {
-        assert!(rt; reprinted(rt.alloc(), c.script, c.lines)?);
-    }
-    for c in CASES_C.iter().chain(CASES_D.iter()) {
-        assert!(rt; reprinted(rt.alloc(), c.script, c.lines)?);
-    }
+    let heap = rt.alloc();
+    assert_eq!(rt; first_wrong(heap, reprint_text, &CASES_A)?, None);
+    assert_eq!(rt; first_wrong(heap, reprint_text, &CASES_B)?, None);
+    assert_eq!(rt; first_wrong(heap, reprint_text, &CASES_C)?, None);
+    assert_eq!(rt; first_wrong(heap, reprint_text, &CASES_D)?, None);
     Ok(())
-}
-
-// Whether the script is reprinted by these lines.
-fn reprinted(heap: Global, script: &[u8], lines: &[u8]) -> Result<bool, AllocError> {
-    let text = reprint_text(heap, script)?;
-    Ok(text.as_slice() == lines)
 }
 
 // A script, and one with the texts of its checks in their places. Both are reprinted by these
@@ -644,119 +633,161 @@ static AGAIN: [Again; 3] = [
 
 #[test]
 fn texts_again(rt: HostRuntime) -> Result<(), Fail> {
-    for a in AGAIN.iter() {
-        assert!(rt; reprinted(rt.alloc(), a.script, a.lines)?);
-        assert!(rt; reprinted(rt.alloc(), a.again, a.lines)?);
+    for Again {
+        script,
+        again,
+        lines,
+    } in &AGAIN {
+        let cases = [
+            Case { script, lines },
+            Case {
+                script: again,
+                lines,
+            },
+        ];
+        assert_eq!(rt; first_wrong(rt.alloc(), reprint_text, &cases)?, None);
     }
     Ok(())
 }
 
-// The same bytes, so many times more.
-fn repeat(all: &mut Vec<u8>, part: &[u8], times: usize) -> Result<(), AllocError> {
-    for _ in 0..times {
-        all.extend_from_slice(part)?;
-    }
-    Ok(())
-}
-
-// `check`, some bytes so many times, a middle, and other bytes so many times.
-fn nested(
-    heap: Global,
-    opening: &[u8],
-    middle: &[u8],
-    closing: &[u8],
+// The statement `check`, some text so many times, a middle, and other text so many times.
+struct Nested {
+    opening: &'static str,
+    middle: &'static str,
+    closing: &'static str,
     times: usize,
-) -> Result<Vec<u8>, AllocError> {
-    let mut all = Vec::new(heap);
-    all.extend_from_slice(b"check")?;
-    repeat(&mut all, opening, times)?;
-    all.extend_from_slice(middle)?;
-    repeat(&mut all, closing, times)?;
-    Ok(all)
+}
+
+impl Nested {
+    fn script(&self, heap: Global) -> Result<String, AllocError> {
+        let opened = self.opening.repeat(heap, self.times)?;
+        let closed = self.closing.repeat(heap, self.times)?;
+        format!(in heap; "check{opened}{}{closed}", self.middle)
+    }
 }
 
 // The lines of one accepted statement: binders from `_0` on, each between `opening` and `after`,
 // then `inner`.
 fn nested_lines(
     heap: Global,
-    opening: &[u8],
-    after: &[u8],
-    inner: &[u8],
+    opening: &str,
+    after: &str,
+    inner: &str,
     times: usize,
-) -> Result<Vec<u8>, AllocError> {
-    let mut all = Vec::new(heap);
-    all.extend_from_slice(b"statement=1\nanswer=0\nat=-\nterm=")?;
+) -> Result<String, AllocError> {
+    let mut all = String::from_str(heap, "statement=1\nanswer=0\nat=-\nterm=")?;
     for i in 0..times {
-        let digits = i.to_string(heap)?;
-        all.extend_from_slice(opening)?;
-        all.extend_from_slice(digits.as_bytes())?;
-        all.extend_from_slice(after)?;
+        write!(all, "{opening}{i}{after}")?;
     }
-    all.extend_from_slice(inner)?;
-    repeat(&mut all, b")", times)?;
-    all.extend_from_slice(b"\n")?;
+    let closed = ")".repeat(heap, times)?;
+    writeln!(all, "{inner}{closed}")?;
     Ok(all)
 }
+
+static DEEP: [(Nested, &'static [u8]); 6] = [
+    (
+        Nested {
+            opening: "(",
+            middle: "",
+            closing: "",
+            times: 3999,
+        },
+        b"statement=1\nanswer=3\nat=4004\nterm=-\n",
+    ),
+    (
+        Nested {
+            opening: "(",
+            middle: "",
+            closing: "",
+            times: 4000,
+        },
+        b"statement=1\nanswer=2\nat=0\nterm=-\n",
+    ),
+    (
+        Nested {
+            opening: "(",
+            middle: "Type",
+            closing: ")",
+            times: 1999,
+        },
+        b"statement=1\nanswer=0\nat=-\nterm=Type\n",
+    ),
+    (
+        Nested {
+            opening: " fun x =>",
+            middle: "",
+            closing: "",
+            times: 1333,
+        },
+        b"statement=1\nanswer=3\nat=12002\nterm=-\n",
+    ),
+    (
+        Nested {
+            opening: " ->",
+            middle: "",
+            closing: "",
+            times: 3999,
+        },
+        b"statement=1\nanswer=3\nat=6\nterm=-\n",
+    ),
+    (
+        Nested {
+            opening: " Type ->",
+            middle: "",
+            closing: "",
+            times: 1999,
+        },
+        b"statement=1\nanswer=3\nat=15997\nterm=-\n",
+    ),
+];
 
 // 4,000 tokens, or nearly so many, of `(`, of `fun x =>` and of `->`: what is missing is placed at
 // the end, and what closes is accepted.
 #[test]
 fn deep(rt: HostRuntime) -> Result<(), Fail> {
     let heap = rt.alloc();
-    let open = nested(heap, b"(", b"", b"", 3999)?;
-    assert!(rt;
-        reprinted(
-            heap,
-            open.as_slice(),
-            b"statement=1\nanswer=3\nat=4004\nterm=-\n",
-        )?
-    );
-    let more = nested(heap, b"(", b"", b"", 4000)?;
-    assert!(rt;
-        reprinted(
-            heap,
-            more.as_slice(),
-            b"statement=1\nanswer=2\nat=0\nterm=-\n",
-        )?
-    );
-    let shut = nested(heap, b"(", b"Type", b")", 1999)?;
-    assert!(rt;
-        reprinted(
-            heap,
-            shut.as_slice(),
-            b"statement=1\nanswer=0\nat=-\nterm=Type\n",
-        )?
-    );
-    let functions = nested(heap, b" fun x =>", b"", b"", 1333)?;
-    assert!(rt;
-        reprinted(
-            heap,
-            functions.as_slice(),
-            b"statement=1\nanswer=3\nat=12002\nterm=-\n",
-        )?
-    );
-    let whole = nested(heap, b" fun x =>", b" x", b"", 1332)?;
-    let lines = nested_lines(heap, b"(fun _", b" => ", b"_1331", 1332)?;
-    assert!(rt; reprinted(heap, whole.as_slice(), lines.as_slice())?);
-    let bare = nested(heap, b" ->", b"", b"", 3999)?;
-    assert!(rt;
-        reprinted(
-            heap,
-            bare.as_slice(),
-            b"statement=1\nanswer=3\nat=6\nterm=-\n",
-        )?
-    );
-    let arrows = nested(heap, b" Type ->", b"", b"", 1999)?;
-    assert!(rt;
-        reprinted(
-            heap,
-            arrows.as_slice(),
-            b"statement=1\nanswer=3\nat=15997\nterm=-\n",
-        )?
-    );
-    let types = nested(heap, b" Type ->", b" Type", b"", 1999)?;
-    let lines = nested_lines(heap, b"(Pi (_", b" : Type), ", b"Type", 1999)?;
-    assert!(rt; reprinted(heap, types.as_slice(), lines.as_slice())?);
+    for (nested, lines) in &DEEP {
+        let script = nested.script(heap)?;
+        let cases = [Case {
+            script: script.as_bytes(),
+            lines,
+        }];
+        assert_eq!(rt; first_wrong(heap, reprint_text, &cases)?, None);
+    }
+    Ok(())
+}
+
+// Nearly 4,000 tokens that are accepted, with a binder for each turn.
+#[test]
+fn deep_binders(rt: HostRuntime) -> Result<(), Fail> {
+    let heap = rt.alloc();
+    let functions = Nested {
+        opening: " fun x =>",
+        middle: " x",
+        closing: "",
+        times: 1332,
+    }
+    .script(heap)?;
+    let function_lines = nested_lines(heap, "(fun _", " => ", "_1331", 1332)?;
+    let arrows = Nested {
+        opening: " Type ->",
+        middle: " Type",
+        closing: "",
+        times: 1999,
+    }
+    .script(heap)?;
+    let arrow_lines = nested_lines(heap, "(Pi (_", " : Type), ", "Type", 1999)?;
+    let cases = [
+        Case {
+            script: functions.as_bytes(),
+            lines: function_lines.as_bytes(),
+        },
+        Case {
+            script: arrows.as_bytes(),
+            lines: arrow_lines.as_bytes(),
+        },
+    ];
+    assert_eq!(rt; first_wrong(heap, reprint_text, &cases)?, None);
     Ok(())
 }
 
@@ -764,10 +795,18 @@ fn deep(rt: HostRuntime) -> Result<(), Fail> {
 #[test]
 fn long_scripts(rt: HostRuntime) -> Result<(), Fail> {
     let heap = rt.alloc();
-    let mut script = Vec::new(heap);
-    repeat(&mut script, b" ", 1_000_000)?;
-    assert!(rt; reprinted(heap, script.as_slice(), b"")?);
-    repeat(&mut script, b" ", 1)?;
-    assert!(rt; reprinted(heap, script.as_slice(), b"answer=13\n")?);
+    let most = blanks(heap, 1_000_000)?;
+    let more = blanks(heap, 1_000_001)?;
+    let cases = [
+        Case {
+            script: most.as_slice(),
+            lines: b"",
+        },
+        Case {
+            script: more.as_slice(),
+            lines: b"answer=13\n",
+        },
+    ];
+    assert_eq!(rt; first_wrong(heap, reprint_text, &cases)?, None);
     Ok(())
 }

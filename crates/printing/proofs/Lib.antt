@@ -1,3 +1,3 @@
-pub mod Puts
 pub mod Texts
 pub mod Trees
+pub mod Prints

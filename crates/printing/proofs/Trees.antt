@@ -13,7 +13,6 @@ use Rattle.grammar.specs.Grammar.{Name}
 use Rattle.grammar.specs.Text.{binder_name, sort_text, text}
 use Rattle.printing.specs.Layout.{shown, Piece, lead_text, part_text, two_closes, one_piece, first_piece, second_piece, match_piece, arm_piece}
 use Rattle.printing.specs.declared.forms.Arm.TheVariants as arm
-use Rattle.printing.proofs.Puts.{end, more, Spells}
 
 two_add : (d : ℕ) → 2 + d ≡ suc (suc d)
 two_add d = omega arith
@@ -21,8 +20,8 @@ two_add d = omega arith
 one_grouped : (a n b E c : List ℕ) → a ++ n ++ b ++ E ++ c ≡ a ++ (n ++ b) ++ E ++ c
 one_grouped a n b E c = simp append_assoc
 
-two_grouped : (a n b E l F c : List ℕ) → a ++ n ++ b ++ E ++ l ++ F ++ c ≡ a ++ (n ++ b) ++ E ++ (l ++ F ++ c)
-two_grouped a n b E l F c = simp append_assoc
+bound_grouped : (a n b E l F c : List ℕ) → a ++ n ++ b ++ E ++ l ++ F ++ c ≡ a ++ (n ++ b) ++ E ++ (l ++ F ++ c)
+bound_grouped a n b E l F c = simp append_assoc
 
 unpack_grouped : (a n m o b E l F c : List ℕ) → a ++ n ++ m ++ o ++ b ++ E ++ l ++ F ++ c ≡ a ++ ((n ++ (m ++ o)) ++ b) ++ E ++ (l ++ F ++ c)
 unpack_grouped a n m o b E l F c = simp append_assoc
@@ -54,6 +53,16 @@ module _ (es : List Name) (d : ℕ) where
   unfolding shown
   deep_two E = ap (λ m. text es m E) (sym (two_add d))
 
+  -- one binder stands over the second part
+  bound_shown : (a b l : List ℕ) (E F : Term) → a ++ binder_name d ++ b ++ text es d E ++ l ++ text es (suc d) F ++ codes ")" ≡ a ++ (binder_name d ++ b) ++ shown es (0 + d) E ++ (l ++ shown es (1 + d) F ++ codes ")")
+  bound_shown a b l E F =
+      bound_grouped a (binder_name d) b (text es d E) l (text es (suc d) F) (codes ")")
+      ∙ ap₂ (λ x y. a ++ (binder_name d ++ b) ++ x ++ (l ++ y ++ codes ")")) (deep_none E) (deep_one F)
+
+  -- no binder stands over the second part
+  free_shown : (a l c : List ℕ) (E F : Term) → a ++ text es d E ++ l ++ text es d F ++ c ≡ a ++ shown es (0 + d) E ++ (l ++ shown es (0 + d) F ++ c)
+  free_shown a l c E F = ap₂ (λ x y. a ++ x ++ l ++ y ++ c) (deep_none E) (deep_none F) ∙ simp append_assoc
+
   one_shown : (p : ℕ) (u : Unary) (E : Term) → shown es d (unary p u E) ≡ one_form d u (shown es (binds u + d) E)
   unfolding shown
   one_shown p Fun E =
@@ -65,39 +74,19 @@ module _ (es : List Name) (d : ℕ) where
 
   two_shown : (p : ℕ) (b : Binary) (E F : Term) → shown es d (binary p b E F) ≡ two_form d b (shown es (0 + d) E) (shown es (binds_last b + d) F)
   unfolding shown
-  two_shown p Pi E F =
-      two_grouped (codes "(Pi (") (binder_name d) (codes " : ") (text es d E) (codes "), ") (text es (suc d) F) (codes ")")
-      ∙ ap₂ (two_form d Pi) (deep_none E) (deep_one F)
-  two_shown p Sigma E F =
-      two_grouped (codes "(Sigma (") (binder_name d) (codes " : ") (text es d E) (codes "), ") (text es (suc d) F) (codes ")")
-      ∙ ap₂ (two_form d Sigma) (deep_none E) (deep_one F)
-  two_shown p Exists E F =
-      two_grouped (codes "(exists (") (binder_name d) (codes " : ") (text es d E) (codes "), ") (text es (suc d) F) (codes ")")
-      ∙ ap₂ (two_form d Exists) (deep_none E) (deep_one F)
-  two_shown p Typed E F =
-      two_grouped (codes "(fun (") (binder_name d) (codes " : ") (text es d E) (codes ") => ") (text es (suc d) F) (codes ")")
-      ∙ ap₂ (two_form d Typed) (deep_none E) (deep_one F)
-  two_shown p App E F =
-      two_grouped (codes "(") [] [] (text es d E) (codes " ") (text es d F) (codes ")")
-      ∙ ap₂ (two_form d App) (deep_none E) (deep_none F)
-  two_shown p Pair E F =
-      two_grouped (codes "(") [] [] (text es d E) (codes ", ") (text es d F) (codes ")")
-      ∙ ap₂ (two_form d Pair) (deep_none E) (deep_none F)
-  two_shown p Pack E F =
-      two_grouped (codes "{") [] [] (text es d E) (codes ", ") (text es d F) (codes "}")
-      ∙ ap₂ (two_form d Pack) (deep_none E) (deep_none F)
+  two_shown p Pi E F = bound_shown (codes "(Pi (") (codes " : ") (codes "), ") E F
+  two_shown p Sigma E F = bound_shown (codes "(Sigma (") (codes " : ") (codes "), ") E F
+  two_shown p Exists E F = bound_shown (codes "(exists (") (codes " : ") (codes "), ") E F
+  two_shown p Typed E F = bound_shown (codes "(fun (") (codes " : ") (codes ") => ") E F
+  two_shown p App E F = free_shown (codes "(") (codes " ") (codes ")") E F
+  two_shown p Pair E F = free_shown (codes "(") (codes ", ") (codes ")") E F
+  two_shown p Pack E F = free_shown (codes "{") (codes ", ") (codes "}") E F
   two_shown p Unpack E F =
       unpack_grouped (codes "(let {") (binder_name d) (codes ", ") (binder_name (suc d)) (codes "} := ") (text es d E) (codes " in ") (text es (suc (suc d)) F) (codes ")")
       ∙ ap₂ (two_form d Unpack) (deep_none E) (deep_two F)
-  two_shown p Sum E F =
-      two_grouped (codes "(") [] [] (text es d E) (codes " + ") (text es d F) (codes ")")
-      ∙ ap₂ (two_form d Sum) (deep_none E) (deep_none F)
-  two_shown p Ascribe E F =
-      two_grouped (codes "(") [] [] (text es d E) (codes " : ") (text es d F) (codes ")")
-      ∙ ap₂ (two_form d Ascribe) (deep_none E) (deep_none F)
-  two_shown p Let E F =
-      two_grouped (codes "(let ") (binder_name d) (codes " := ") (text es d E) (codes " in ") (text es (suc d) F) (codes ")")
-      ∙ ap₂ (two_form d Let) (deep_none E) (deep_one F)
+  two_shown p Sum E F = free_shown (codes "(") (codes " + ") (codes ")") E F
+  two_shown p Ascribe E F = free_shown (codes "(") (codes " : ") (codes ")") E F
+  two_shown p Let E F = bound_shown (codes "(let ") (codes " := ") (codes " in ") E F
 
   match_shown : (p : ℕ) (E F G : Term) → shown es d (choice p E F G) ≡ match_form d (shown es (0 + d) E) (shown es (1 + d) F) (shown es (1 + d) G)
   unfolding shown
@@ -107,36 +96,32 @@ module _ (es : List Name) (d : ℕ) where
       ∙ ap₂ (match_form d (shown es (0 + d) E)) (deep_one F) (deep_one G)
 
 module _ (es : List Name) (d : ℕ) {a : Arena} {id : ℕ} where
-  pub sort_is : {p s : ℕ} → Read a id (Sort p s) → Spells (shown es d (term a id)) (end (sort_text s))
+  pub sort_is : {p s : ℕ} → Read a id (Sort p s) → shown es d (term a id) ≡ sort_text s
   unfolding shown
-  sort_is r = record { is = ap (shown es d) r.is }
+  sort_is r = ap (shown es d) r.is
 
-  pub local_is : {p k : ℕ} → Read a id (Local p k) → (m : ℕ) → m ≡ d - (k + 1) → Spells (shown es d (term a id)) (end (binder_name m))
+  pub local_is : {p k : ℕ} → Read a id (Local p k) → (m : ℕ) → m ≡ d - (k + 1) → shown es d (term a id) ≡ binder_name m
   unfolding shown
   local_is {p} {k} r m e =
       let f : d - suc k ≡ m = omega arith in
-      record { is = ap (shown es d) r.is ∙ ap binder_name f }
+      ap (shown es d) r.is ∙ ap binder_name f
 
-  pub entry_is : {p j : ℕ} → Read a id (Entry p j) → (name : List ℕ) → name ≡ get_or es j [] → Spells (shown es d (term a id)) (end name)
+  pub entry_is : {p j : ℕ} → Read a id (Entry p j) → (name : List ℕ) → name ≡ get_or es j [] → shown es d (term a id) ≡ name
   unfolding shown
-  entry_is r name e = record { is = ap (shown es d) r.is ∙ sym e }
+  entry_is r name e = ap (shown es d) r.is ∙ sym e
 
-  pub one_is : {p x : ℕ} {u : Unary} → Read a id (One p u x) → (q : Piece) → q ≡ one_piece u → Spells (shown es d (term a id)) (more (part_text q es d (term a x)) (end (codes ")")))
+  pub one_is : {p x : ℕ} {u : Unary} → Read a id (One p u x) → (q : Piece) → q ≡ one_piece u → shown es d (term a id) ≡ part_text q es d (term a x) ++ codes ")"
   one_is {p} {x} {u} r q e =
-      record { is = ap (shown es d) r.is ∙ one_shown es d p u (term a x) ∙ ap (λ w. part_text w es d (term a x) ++ codes ")") (sym e) }
+      ap (shown es d) r.is ∙ one_shown es d p u (term a x) ∙ ap (λ w. part_text w es d (term a x) ++ codes ")") (sym e)
 
-  pub two_is : {p x y : ℕ} {b : Binary} → Read a id (Two p b x y) → (q s : Piece) (k : List ℕ) → q ≡ first_piece b → s ≡ second_piece b → k ≡ two_closes b → Spells (shown es d (term a id)) (more (part_text q es d (term a x)) (more (part_text s es d (term a y)) (end k)))
+  pub two_is : {p x y : ℕ} {b : Binary} → Read a id (Two p b x y) → (q s : Piece) (k : List ℕ) → q ≡ first_piece b → s ≡ second_piece b → k ≡ two_closes b → shown es d (term a id) ≡ part_text q es d (term a x) ++ (part_text s es d (term a y) ++ k)
   two_is {p} {x} {y} {b} r q s k e f g =
-      record {
-        is = ap (shown es d) r.is ∙ two_shown es d p b (term a x) (term a y)
-            ∙ ap (λ w. part_text w es d (term a x) ++ (part_text (second_piece b) es d (term a y) ++ two_closes b)) (sym e)
-            ∙ ap₂ (λ w v. part_text q es d (term a x) ++ (part_text w es d (term a y) ++ v)) (sym f) (sym g);
-      }
+      ap (shown es d) r.is ∙ two_shown es d p b (term a x) (term a y)
+      ∙ ap (λ w. part_text w es d (term a x) ++ (part_text (second_piece b) es d (term a y) ++ two_closes b)) (sym e)
+      ∙ ap₂ (λ w v. part_text q es d (term a x) ++ (part_text w es d (term a y) ++ v)) (sym f) (sym g)
 
-  pub match_is : {p x y z : ℕ} → Read a id (Match p x y z) → (q s t : Piece) → q ≡ match_piece → s ≡ arm_piece arm.Inl → t ≡ arm_piece arm.Inr → Spells (shown es d (term a id)) (more (part_text q es d (term a x)) (more (codes " with") (more (part_text s es d (term a y)) (more (part_text t es d (term a z)) (end (codes " end)"))))))
+  pub match_is : {p x y z : ℕ} → Read a id (Match p x y z) → (q s t : Piece) → q ≡ match_piece → s ≡ arm_piece arm.Inl → t ≡ arm_piece arm.Inr → shown es d (term a id) ≡ part_text q es d (term a x) ++ (codes " with" ++ (part_text s es d (term a y) ++ (part_text t es d (term a z) ++ codes " end)")))
   match_is {p} {x} {y} {z} r q s t e f g =
-      record {
-        is = ap (shown es d) r.is ∙ match_shown es d p (term a x) (term a y) (term a z)
-            ∙ ap (λ w. part_text w es d (term a x) ++ (codes " with" ++ (part_text (arm_piece arm.Inl) es d (term a y) ++ (part_text (arm_piece arm.Inr) es d (term a z) ++ codes " end)")))) (sym e)
-            ∙ ap₂ (λ w v. part_text q es d (term a x) ++ (codes " with" ++ (part_text w es d (term a y) ++ (part_text v es d (term a z) ++ codes " end)")))) (sym f) (sym g);
-      }
+      ap (shown es d) r.is ∙ match_shown es d p (term a x) (term a y) (term a z)
+      ∙ ap (λ w. part_text w es d (term a x) ++ (codes " with" ++ (part_text (arm_piece arm.Inl) es d (term a y) ++ (part_text (arm_piece arm.Inr) es d (term a z) ++ codes " end)")))) (sym e)
+      ∙ ap₂ (λ w v. part_text q es d (term a x) ++ (codes " with" ++ (part_text w es d (term a y) ++ (part_text v es d (term a z) ++ codes " end)")))) (sym f) (sym g)

@@ -7,7 +7,7 @@ use Rattle.term.specs.declared.node.Unary.TheVariants.{Fun, Fst, Snd, Inl, Inr}
 use Rattle.term.specs.declared.node.Binary.{Binary}
 use Rattle.term.specs.declared.node.Binary.TheVariants.{Pi, Sigma, Exists, Typed, App, Pair, Pack, Unpack, Sum, Ascribe, Let}
 use Rattle.term.specs.Forms.{binds, binds_last}
-use Rattle.printing.specs.declared.forms.Lead.{Lead}
+use Rattle.printing.specs.declared.lead.Lead.{Lead}
 use Rattle.printing.specs.declared.forms.Arm.{Arm}
 use Rattle.printing.specs.declared.forms.Arm.TheVariants as arm
 use Rattle.term.specs.Term.{Term}

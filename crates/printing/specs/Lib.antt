@@ -1,2 +1,5 @@
+pub mod Parts
+pub mod Measure
+pub mod Page
 pub mod Output
 pub mod Layout

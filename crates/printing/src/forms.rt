@@ -1,20 +1,11 @@
 //! The fixed bytes of each form: what leads to its first part, what stands between its parts, and
 //! how it closes.
-ghost use Rattle.std.specs.Prelude.{◌≡◌, ◌≤◌};
+ghost use Rattle.std.specs.Prelude.{◌≡◌};
 ghost use Rattle.printing.specs.Layout.{one_opens, one_bound, two_opens, two_bound, two_link, two_closes, arm_opens};
 ghost use Rattle.printing.specs.Layout.{piece_of, one_piece, first_piece, second_piece, match_piece, arm_piece};
 
+use crate::lead::Lead;
 use term::node::{Binary, Unary};
-
-// What leads to a part: how it opens, the names of so many binders, what follows them, and how
-// many more binders the part stands under.
-#[derive(Clone, Copy)]
-pub(crate) struct Lead<'a> {
-    pub(crate) opening: &'a [u8],
-    pub(crate) names: u64,
-    pub(crate) bound: &'a [u8],
-    pub(crate) under: u64,
-}
 
 // The arms of a match.
 #[derive(Clone, Copy)]
@@ -45,8 +36,7 @@ fn one_bound(form: Unary) -> &'static [u8]
 }
 
 pub(crate) fn one_lead(form: Unary) -> Lead<'static>
-    ensures is { piece_of result ≡ one_piece form }
-    ensures few { result.under ≤ 2 }
+    ensures { piece_of result ≡ one_piece form }
 {
     let binders = u64::from(form.binders());
     Lead {
@@ -84,8 +74,7 @@ fn two_bound(form: Binary) -> &'static [u8]
 }
 
 pub(crate) fn first_lead(form: Binary) -> Lead<'static>
-    ensures is { piece_of result ≡ first_piece form }
-    ensures few { result.under ≤ 2 }
+    ensures { piece_of result ≡ first_piece form }
 {
     Lead {
         opening: two_opens(form),
@@ -110,8 +99,7 @@ fn two_link(form: Binary) -> &'static [u8]
 }
 
 pub(crate) fn second_lead(form: Binary) -> Lead<'static>
-    ensures is { piece_of result ≡ second_piece form }
-    ensures few { result.under ≤ 2 }
+    ensures { piece_of result ≡ second_piece form }
 {
     Lead {
         opening: two_link(form),
@@ -140,8 +128,7 @@ fn arm_opens(arm: Arm) -> &'static [u8]
 }
 
 pub(crate) fn match_lead() -> Lead<'static>
-    ensures is { piece_of result ≡ match_piece }
-    ensures few { result.under ≤ 2 }
+    ensures { piece_of result ≡ match_piece }
 {
     Lead {
         opening: b"(match ",
@@ -152,8 +139,7 @@ pub(crate) fn match_lead() -> Lead<'static>
 }
 
 pub(crate) fn arm_lead(arm: Arm) -> Lead<'static>
-    ensures is { piece_of result ≡ arm_piece arm }
-    ensures few { result.under ≤ 2 }
+    ensures { piece_of result ≡ arm_piece arm }
 {
     Lead {
         opening: arm_opens(arm),

@@ -3,7 +3,10 @@
 
 pub mod fault;
 mod forms;
-mod pen;
+mod lead;
+mod measure;
+mod page;
 pub mod printer;
+mod sink;
 #[cfg(test)]
 mod tests;

@@ -1,13 +1,16 @@
 //! The text of a term: measured first, then written.
-ghost use Rattle.std.specs.Prelude.{◌≡◌, ℕ, ◌+◌, ◌-◌, ◌*◌, ◌^◌, ◌<◌, ◌≤◌, min, [], length, slice_index_or};
+ghost use Rattle.std.specs.Prelude.{ℕ, ◌+◌, ◌-◌, ◌*◌, ◌^◌, ◌<◌, ◌≡◌, min, [], length, slice_index_or};
 ghost use Rattle.term.specs.State.{term};
-ghost use Rattle.printing.specs.Output.{Puts, Printed, ReadsBack};
+ghost use Rattle.printing.specs.Output.{Printed, ReadsBack};
 ghost use Rattle.printing.specs.Layout.{names_of, shown, piece_of, part_text};
 
 use crate::fault::PrintFault;
 use crate::forms;
-use crate::forms::{Arm, Lead};
-use crate::pen::Pen;
+use crate::forms::Arm;
+use crate::lead::Lead;
+use crate::measure::Measure;
+use crate::page::Page;
+use crate::sink::Sink;
 use script::statement::Span;
 use term::arena::Arena;
 use term::node::Node;
@@ -18,7 +21,6 @@ struct Printer<'a> {
     arena: &'a Arena,
     names: &'a [Span],
     script: &'a [u8],
-    pen: Pen,
 }
 
 // How many binders stand outside that of the local `k`, under `d` binders.
@@ -34,58 +36,52 @@ impl<'a> Printer<'a> {
     fn name(&self, entry: usize) -> &'a [u8]
         ensures { result.now ≡ slice_index_or (names_of self.now.script.now self.now.names.now) entry [] }
     {
-        if entry < self.names.len() {
-            self.names[entry].bytes(self.script)
-        } else {
-            b""
-        }
+        self.names
+            .get(entry)
+            .map_or(b"", |span| span.bytes(self.script))
     }
 
     // What leads to the part at `id` of a tree under `d` binders, and the part.
     #[cycle(part_text)]
-    fn part(
+    fn part<S: Sink>(
         &self,
         lead: Lead<'_>,
         id: usize,
         d: u64,
-        out: &mut [u8],
-        at: usize,
-    ) -> Result<usize, PrintFault>
-        requires at { at ≤ length out.old }
+        sink: &mut S,
+    ) -> Result<(), PrintFault>
         requires few { lead.under + d + 2 * min id 1000000 < 2 ^ 32 }
-        ensures { Puts self.now.pen out.old at (part_text (piece_of lead.entry) (names_of self.now.script.now self.now.names.now) d (term self.now.arena.now id)) out.new result }
+        ensures { S.put_gives sink.old (part_text (piece_of lead.entry) (names_of self.now.script.now self.now.names.now) d (term self.now.arena.now id)) result sink.new }
     {
-        let at = self.pen.lead(lead, d, out, at)?;
-        self.text(id, lead.under + d, out, at)
+        sink.lead(lead, d)?;
+        self.text(id, lead.under + d, sink)
     }
 
     // The tree at `id`, under `d` binders.
     #[cycle(part_text)]
-    fn text(&self, id: usize, d: u64, out: &mut [u8], at: usize) -> Result<usize, PrintFault>
-        requires at { at ≤ length out.old }
+    fn text<S: Sink>(&self, id: usize, d: u64, sink: &mut S) -> Result<(), PrintFault>
         requires few { d + 2 * min id 1000000 < 2 ^ 32 }
-        ensures { Puts self.now.pen out.old at (shown (names_of self.now.script.now self.now.names.now) d (term self.now.arena.now id)) out.new result }
+        ensures { S.put_gives sink.old (shown (names_of self.now.script.now self.now.names.now) d (term self.now.arena.now id)) result sink.new }
     {
-        let pen = self.pen;
         match self.arena.at(id) {
-            Node::Sort(_, s) => pen.sort(s, out, at),
-            Node::Local(_, k) => pen.binder(outside(d, k), out, at),
-            Node::Entry(_, j) => pen.put(self.name(j), out, at),
+            Node::Sort(_, s) => sink.sort(s),
+            Node::Local(_, k) => sink.binder(outside(d, k)),
+            Node::Entry(_, j) => sink.put(self.name(j)),
             Node::One(_, form, a) => {
-                let at = self.part(forms::one_lead(form), a, d, out, at)?;
-                pen.put(b")", out, at)
+                self.part(forms::one_lead(form), a, d, sink)?;
+                sink.put(b")")
             }
             Node::Two(_, form, a, b) => {
-                let at = self.part(forms::first_lead(form), a, d, out, at)?;
-                let at = self.part(forms::second_lead(form), b, d, out, at)?;
-                pen.put(forms::two_closes(form), out, at)
+                self.part(forms::first_lead(form), a, d, sink)?;
+                self.part(forms::second_lead(form), b, d, sink)?;
+                sink.put(forms::two_closes(form))
             }
             Node::Match(_, e, l, r) => {
-                let at = self.part(forms::match_lead(), e, d, out, at)?;
-                let at = pen.put(b" with", out, at)?;
-                let at = self.part(forms::arm_lead(Arm::Inl), l, d, out, at)?;
-                let at = self.part(forms::arm_lead(Arm::Inr), r, d, out, at)?;
-                pen.put(b" end)", out, at)
+                self.part(forms::match_lead(), e, d, sink)?;
+                sink.put(b" with")?;
+                self.part(forms::arm_lead(Arm::Inl), l, d, sink)?;
+                self.part(forms::arm_lead(Arm::Inr), r, d, sink)?;
+                sink.put(b" end)")
             }
         }
     }
@@ -104,16 +100,14 @@ pub fn print<'a>(
     ensures printed { Printed (names_of script.now names.now) (term arena.now id) out.old out.new result }
     ensures back { ReadsBack (names_of script.now names.now) (term arena.now id) out.new result }
 {
-    let measures = Printer {
+    let printer = Printer {
         arena,
         names,
         script,
-        pen: Pen::Measures,
     };
-    measures.text(id, 0, out, 0)?;
-    let writes = Printer {
-        pen: Pen::Writes,
-        ..measures
-    };
-    writes.text(id, 0, out, 0)
+    let mut measure = Measure { room: out.len() };
+    printer.text(id, 0, &mut measure)?;
+    let mut page = Page { out, at: 0 };
+    printer.text(id, 0, &mut page)?;
+    Ok(page.at)
 }

@@ -1,4 +1,5 @@
 //! Printed texts, worked out by hand.
+use crate::fault::PrintFault;
 use crate::printer::print;
 use script::statement::Span;
 use std::test::Fail;
@@ -44,11 +45,10 @@ fn short(rt: HostRuntime) -> Result<(), Fail> {
     let sort = a.make(Node::Sort(0, 0))?;
     let pair = a.make(Node::Two(0, Binary::Pair, sort, sort))?;
     let mut out = [b'#'; 11];
-    match print(&a, pair, &[], b"", &mut out) {
-        Ok(_) => Err(Fail::new("it fits")),
-        Err(fault) => {
-            assert!(rt; fault.number() == 26 && out == *b"###########");
-            Ok(())
-        },
-    }
+    assert_eq!(rt;
+        print(&a, pair, &[], b"", &mut out).map_err(PrintFault::number),
+        Err(26)
+    );
+    assert!(rt; out == *b"###########");
+    Ok(())
 }

@@ -1,1 +1,5 @@
+pub mod Lines
+pub mod Told
 pub mod Outline
+pub mod Reprint
+pub mod Run

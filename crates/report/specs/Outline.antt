@@ -8,14 +8,8 @@ use Rattle.script.specs.declared.statement.ScriptFault.{ScriptFault}
 use Rattle.script.specs.Faults.{fault_number, fault_place, token_check}
 use Rattle.script.specs.Names.{bytes_at}
 use Rattle.script.specs.Statements.{statements_from}
-
--- a text was put after what there was
-pub record Appended (was text is : List ℕ) : Type 0 where
-  pub whole : is ≡ was ++ text
-
--- a key, a value and the line's end
-unfoldable pub line : List ℕ → List ℕ → List ℕ
-line key value = key ++ (value ++ 10 ∷ [])
+use Rattle.report.specs.declared.outline.Outline.{Outline}
+use Rattle.report.specs.Lines.{line}
 
 abbrev pub kind_text : Option StatementKind → List ℕ
 kind_text None = codes "-"
@@ -48,6 +42,10 @@ answer_lines st = line (codes "answer=") (answer_text (token_check st)) ++ line 
 
 abbrev pub lines : ℕ → List ℕ → Statement → List ℕ
 lines n s st = what_lines n s st ++ answer_lines st
+
+-- the outline of one statement, after which the teller is for the same script
+abbrev pub Outlines : Outline → ℕ → Statement → List ℕ → Outline → Type 0
+Outlines o n st text p = (text ≡ lines n o.script.now st) × (p.script.now ≡ o.script.now)
 
 abbrev pub all_lines : ℕ → List ℕ → List Statement → List ℕ
 all_lines n s [] = []

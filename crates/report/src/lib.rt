@@ -4,4 +4,6 @@
 pub mod input;
 pub mod lines;
 pub mod outline;
+mod refusal;
 pub mod reprint;
+mod told;

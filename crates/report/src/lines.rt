@@ -1,31 +1,62 @@
 //! Lines of a key and a value.
 ghost use Rattle.std.specs.Prelude.{decimal, OnOk};
-ghost use Rattle.report.specs.Outline.{Appended, line};
+ghost use Rattle.report.specs.Lines.{Appended, line, place_line, refusal_lines};
 
-use std::alloc::{AllocError, Global};
+use crate::refusal::Refusal;
+use itoa::Buffer;
+use std::alloc::AllocError;
 
 /// The longest script that the programs take.
 pub const MOST_BYTES: usize = 1_000_000;
 
-/// A key, a value and the line's end.
-pub fn text_line(out: &mut Vec<u8>, key: &[u8], value: &[u8]) -> Result<(), AllocError>
-    ensures { OnOk result (Appended out.old.items (line key.now value.now) out.new.items) }
-{
-    out.extend_from_slice(key)?;
-    out.extend_from_slice(value)?;
-    out.push(b'\n')?;
-    Ok(())
+/// Lines of a key and a value, one after another.
+#[derive(Drop)]
+pub struct Lines {
+    pub bytes: Vec<u8>,
 }
 
-/// A key, a number in decimal digits and the line's end.
-pub fn number_line(
-    heap: Global,
-    out: &mut Vec<u8>,
-    key: &[u8],
-    value: usize,
-) -> Result<(), AllocError>
-    ensures { OnOk result (Appended out.old.items (line key.now (decimal value)) out.new.items) }
-{
-    let digits = value.to_string(heap)?;
-    text_line(out, key, digits.as_bytes())
+impl Lines {
+    /// A key, a value and the line's end.
+    pub fn text(&mut self, key: &[u8], value: &[u8]) -> Result<(), AllocError>
+        ensures { OnOk result (Appended self.old.bytes.items (line key.now value.now) self.new.bytes.items) }
+    {
+        self.bytes.extend_from_slice(key)?;
+        self.bytes.extend_from_slice(value)?;
+        self.bytes.push(b'\n')?;
+        Ok(())
+    }
+
+    /// A key, a number in decimal digits and the line's end.
+    pub fn number(&mut self, key: &[u8], value: usize) -> Result<(), AllocError>
+        ensures { OnOk result (Appended self.old.bytes.items (line key.now (decimal value)) self.new.bytes.items) }
+    {
+        let mut digits = Buffer::new();
+        self.text(key, digits.format(value).as_bytes())
+    }
+
+    // A key and a place, or a dash where there is none.
+    fn place(&mut self, key: &[u8], place: Option<usize>) -> Result<(), AllocError>
+        ensures { OnOk result (Appended self.old.bytes.items (place_line key.now place) self.new.bytes.items) }
+    {
+        match place {
+            Some(at) => self.number(key, at),
+            None => self.text(key, b"-"),
+        }
+    }
+
+    // The answer, 0 or the number of a refusal, and under the key its place.
+    pub(crate) fn answer(&mut self, key: &[u8], refusal: Option<Refusal>) -> Result<(), AllocError>
+        ensures { OnOk result (Appended self.old.bytes.items (refusal_lines key.now refusal) self.new.bytes.items) }
+    {
+        match refusal {
+            Some(Refusal { number, place }) => {
+                self.number(b"answer=", number as usize)?;
+                self.place(key, place)
+            }
+            None => {
+                self.text(b"answer=", b"0")?;
+                self.place(key, None)
+            }
+        }
+    }
 }

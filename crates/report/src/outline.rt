@@ -1,85 +1,68 @@
 //! The outline of a script: what its statements are, from their lexemes alone.
-ghost use Rattle.std.specs.Prelude.{◌≡◌, IfOk, OnOk};
-ghost use Rattle.report.specs.Outline.{Appended, kind_text, name_text, what_lines, answer_lines, lines, outline};
+ghost use Rattle.std.specs.Prelude.{◌≡◌, Some, IfOk, OnOk};
+ghost use Rattle.report.specs.Lines.{Appended};
+ghost use Rattle.report.specs.Outline.{kind_text, name_text, what_lines, answer_lines, outline};
 
-use crate::lines::{MOST_BYTES, number_line, text_line};
-use script::reader::Reader;
-use script::statement::{Span, Statement, StatementKind};
+use crate::lines::Lines;
+use crate::refusal::Refusal;
+use crate::told::{Teller, told};
+use script::statement::{Statement, StatementKind};
 use std::alloc::{AllocError, Global};
 
-fn kind_word(kind: Option<StatementKind>) -> &'static [u8]
-    ensures { result.now ≡ kind_text kind }
+#[derive(Clone, Copy)]
+struct Outline<'a> {
+    script: &'a [u8],
+}
+
+fn kind_word(kind: StatementKind) -> &'static [u8]
+    ensures { result.now ≡ kind_text (Some kind) }
 {
     match kind {
-        None => b"-",
-        Some(StatementKind::Def) => b"def",
-        Some(StatementKind::Axiom) => b"axiom",
-        Some(StatementKind::Check) => b"check",
-        Some(StatementKind::Eval) => b"eval",
+        StatementKind::Def => b"def",
+        StatementKind::Axiom => b"axiom",
+        StatementKind::Check => b"check",
+        StatementKind::Eval => b"eval",
     }
 }
 
-fn name_word<'a>(script: &'a [u8], name: Option<Span>) -> &'a [u8]
-    ensures { result.now ≡ name_text script.now name }
-{
-    match name {
-        None => b"-",
-        Some(span) => span.bytes(script),
+impl Outline<'_> {
+    // The number, place, kind and name of a statement, and its count of tokens.
+    fn what(&self, lines: &mut Lines, number: usize, st: &Statement) -> Result<(), AllocError>
+        ensures { OnOk result (Appended lines.old.bytes.items (what_lines number self.now.script.now st.now) lines.new.bytes.items) }
+    {
+        let kind: &[u8] = st.kind.map_or(b"-", kind_word);
+        let name: &[u8] = st.name.map_or(b"-", |span| span.bytes(self.script));
+        lines.number(b"statement=", number)?;
+        lines.number(b"at=", st.at)?;
+        lines.text(b"kind=", kind)?;
+        lines.text(b"name=", name)?;
+        lines.number(b"tokens=", st.tokens)
     }
 }
 
-fn what(
-    heap: Global,
-    out: &mut Vec<u8>,
-    number: usize,
-    script: &[u8],
-    st: &Statement,
-) -> Result<(), AllocError>
-    ensures { OnOk result (Appended out.old.items (what_lines number script.now st.now) out.new.items) }
+// The refusal that the statement's tokens meet, or 0.
+fn check(lines: &mut Lines, st: &Statement) -> Result<(), AllocError>
+    ensures { OnOk result (Appended lines.old.bytes.items (answer_lines st.now) lines.new.bytes.items) }
 {
-    number_line(heap, out, b"statement=", number)?;
-    number_line(heap, out, b"at=", st.at)?;
-    text_line(out, b"kind=", kind_word(st.kind))?;
-    text_line(out, b"name=", name_word(script, st.name))?;
-    number_line(heap, out, b"tokens=", st.tokens)?;
-    Ok(())
+    lines.answer(b"place=", st.check_tokens().err().map(Refusal::from))
 }
 
-fn answer(heap: Global, out: &mut Vec<u8>, st: &Statement) -> Result<(), AllocError>
-    ensures { OnOk result (Appended out.old.items (answer_lines st.now) out.new.items) }
-{
-    match st.check_tokens() {
-        Ok(_) => {
-            text_line(out, b"answer=", b"0")?;
-            text_line(out, b"place=", b"-")?;
-            Ok(())
-        }
-        Err(fault) => {
-            number_line(heap, out, b"answer=", fault.number() as usize)?;
-            number_line(heap, out, b"place=", fault.place())?;
-            Ok(())
-        }
+impl Teller for Outline<'_> {
+    ghost use Rattle.report.specs.Outline.{Outlines};
+
+    ghost tells = { Outlines };
+
+    fn tell(&mut self, lines: &mut Lines, number: usize, st: &Statement) -> Result<(), AllocError> {
+        self.what(lines, number, st)?;
+        check(lines, st)
     }
-}
-
-fn statement_lines(
-    heap: Global,
-    out: &mut Vec<u8>,
-    number: usize,
-    script: &[u8],
-    st: &Statement,
-) -> Result<(), AllocError>
-    ensures { OnOk result (Appended out.old.items (lines number script.now st.now) out.new.items) }
-{
-    what(heap, out, number, script, st)?;
-    answer(heap, out, st)?;
-    Ok(())
 }
 
 /// The lines of all statements, in their order, or the one line of a script that is too long.
 pub fn outline_text(heap: Global, script: &[u8]) -> Result<Vec<u8>, AllocError>
     ensures { IfOk result (λ v. v.items ≡ outline script.now) }
 {
+<<<<<<< HEAD
     let mut out = Vec::new(heap);
     if script.len() > MOST_BYTES {
         text_line(&mut out, b"answer=", b"13")?;
@@ -89,4 +72,7 @@ pub fn outline_text(heap: Global, script: &[u8]) -> Result<Vec<u8>, AllocError>
         statement_lines(heap, &mut out, i + 1, script, &st)?;
     }
     Ok(out)
+=======
+    told(heap, script, Outline { script })
+>>>>>>> e130b8ade7f0cc58c25e890f7d3a109a40ab1ab0
 }

@@ -1,3 +1,4 @@
+<<<<<<< HEAD
 use Rattle.report.proofs.Texts.{too_long, told_all}
 use Rattle.report.proofs.outline.outline_text.Goals as goal
 
@@ -6,3 +7,11 @@ returns-then-script-gt-MOST_BYTES c = too_long c.args.script.now _ _ c.if-script
 
 pub returns : goal.returns
 returns c = told_all c.args.script.now _ _ _ c.if-script-gt-MOST_BYTES.false c.in-None.ensures.steps.0.0 c.loop-i.invariant
+=======
+use Rattle.std.proofs.Common.{refl, vec_items}
+use Rattle.report.proofs.Statements.{outlined}
+use Rattle.report.proofs.outline.outline_text.Goals as goal
+
+pub returns : goal.returns
+returns c = outlined vec_items c.args.script.now _ c.told.result refl c.told.ensures.long c.told.ensures.all
+>>>>>>> e130b8ade7f0cc58c25e890f7d3a109a40ab1ab0
