@@ -62,17 +62,5 @@ impl Teller for Outline<'_> {
 pub fn outline_text(heap: Global, script: &[u8]) -> Result<Vec<u8>, AllocError>
     ensures { IfOk result (λ v. v.items ≡ outline script.now) }
 {
-<<<<<<< HEAD
-    let mut out = Vec::new(heap);
-    if script.len() > MOST_BYTES {
-        text_line(&mut out, b"answer=", b"13")?;
-        return Ok(out);
-    }
-    for (i, st) in Reader::new(script).statements().enumerate() {
-        statement_lines(heap, &mut out, i + 1, script, &st)?;
-    }
-    Ok(out)
-=======
     told(heap, script, Outline { script })
->>>>>>> e130b8ade7f0cc58c25e890f7d3a109a40ab1ab0
 }

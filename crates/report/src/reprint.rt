@@ -93,39 +93,9 @@ impl Teller for Reprint<'_> {
 }
 
 /// The lines of all statements, in their order, or the one line of a script that is too long.
-<<<<<<< HEAD
-pub fn reprint_text(heap: Global, script: &[u8]) -> Result<Vec<u8>, AllocError> {
-    let mut out = Vec::new(heap);
-    if script.len() > MOST_BYTES {
-        text_line(&mut out, b"answer=", b"13")?;
-        return Ok(out);
-    }
-    let Ok(mut arena) = Arena::new(heap, CELLS) else {
-        return Err(AllocError)
-    };
-    let _ = arena.allot(0);
-    let mut scope = Scope::new(heap)?;
-    let mut entries = Vec::new(heap);
-    let mut page = vec![in heap; 0u8; TEXT_BYTES]?;
-    for (i, st) in Reader::new(script).statements().enumerate() {
-        number_line(heap, &mut out, b"statement=", i + 1)?;
-        statement_lines(
-            heap,
-            &mut out,
-            &mut page,
-            script,
-            &mut entries,
-            &mut scope,
-            &mut arena,
-            st,
-        )?;
-    }
-    Ok(out)
-=======
 pub fn reprint_text(heap: Global, script: &[u8]) -> Result<Vec<u8>, AllocError>
     ensures long { 1000000 < length script.now → IfOk result (λ v. IsTooLong v.items) }
     ensures all { length script.now ≤ 1000000 → IfOk result (λ v. AllFourLines script.now v.items) }
 {
     told(heap, script, Reprint::new(heap, script)?)
->>>>>>> e130b8ade7f0cc58c25e890f7d3a109a40ab1ab0
 }

@@ -1,17 +1,6 @@
-<<<<<<< HEAD
-use Rattle.report.proofs.Texts.{too_long, told_all}
-use Rattle.report.proofs.outline.outline_text.Goals as goal
-
-pub returns-then-script-gt-MOST_BYTES : goal.returns-then-script-gt-MOST_BYTES
-returns-then-script-gt-MOST_BYTES c = too_long c.args.script.now _ _ c.if-script-gt-MOST_BYTES.true c.new-out.ensures.items c.in_ok-text_line.ensures
-
-pub returns : goal.returns
-returns c = told_all c.args.script.now _ _ _ c.if-script-gt-MOST_BYTES.false c.in-None.ensures.steps.0.0 c.loop-i.invariant
-=======
 use Rattle.std.proofs.Common.{refl, vec_items}
 use Rattle.report.proofs.Statements.{outlined}
 use Rattle.report.proofs.outline.outline_text.Goals as goal
 
 pub returns : goal.returns
 returns c = outlined vec_items c.args.script.now _ c.told.result refl c.told.ensures.long c.told.ensures.all
->>>>>>> e130b8ade7f0cc58c25e890f7d3a109a40ab1ab0
