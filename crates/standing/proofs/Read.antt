@@ -1,5 +1,5 @@
 -- What is read has its locals bound, its entries there and its sorts low.
-use Rattle.std.proofs.Common.{◌≡◌, ℕ, suc, ◌+◌, ◌<◌, ◌≤◌, Bool, true, false, cond, not, List, [], ◌∷◌, length, Some, None, Option, refl, ap, subst, arith}
+use Rattle.std.proofs.Common.{◌≡◌, ℕ, suc, ◌+◌, ◌<◌, ◌≤◌, Bool, true, cond, not, List, [], ◌∷◌, length, Some, None, Option, refl, ap, subst, arith}
 use Rattle.std.specs.List.{AllByRecursion}
 use Rattle.std.specs.Str.{bytes_eq}
 use Rattle.std.proofs.lemmas.Bool.{lt-leb}
@@ -30,9 +30,7 @@ find_within x [] = tt
 find_within x (y ∷ sc) = grind (arith, find_within x sc)
 
 one_later : (i : ℕ) (b : Bool) (o : Option ℕ) → Within i o → Within (i + 1) (cond b (Some i) o)
-one_later i true o h = omega arith
-one_later i false None h = tt
-one_later i false (Some k) h = omega arith
+one_later i b o h = grind arith
 
 last_within : (p : Name → Bool) (i : ℕ) (o : Option ℕ) (xs : List Name) → Within i o → Within (i + length xs) (last_from p i o xs)
 last_within p i o [] h = grind arith
@@ -222,14 +220,7 @@ module _ (q : ℕ → Type 0) where
 -- with no condition on numbers
 any_fine : (ws : List Word) → AllFine (λ n. Unit {0}) ws
 any_fine [] = tt
-any_fine (w ∷ ws) = (any w.token, any_fine ws)
-  where
-    any : (x : Token) → Fine (λ n. Unit {0}) x
-    any (name x) = tt
-    any (number n) = tt
-    any (mark m) = tt
-    any (first w) = tt
-    any no_token = tt
+any_fine (w ∷ ws) = grind (arith, any_fine ws)
 
 pub read_closed : ReadClosed
 read_closed entries end ws us t d =
