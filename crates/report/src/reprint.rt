@@ -32,9 +32,7 @@ struct Reprint<'a> {
 
 impl<'a> Reprint<'a> {
     fn new(heap: Global, script: &'a [u8]) -> Result<Reprint<'a>, AllocError> {
-        let Ok(mut arena) = Arena::new(heap, CELLS) else {
-            return Err(AllocError)
-        };
+        let mut arena = Arena::new(heap, CELLS).map_err(|_| AllocError)?;
         let _ = arena.allot(0);
         Ok(Reprint {
             script,
