@@ -5,13 +5,12 @@ ghost use Rattle.term.specs.State.{cells_in};
 ghost use Rattle.syntax.specs.Scopes.{entry_names};
 ghost use Rattle.grammar.specs.Misfit.{Misfits};
 ghost use Rattle.grammar.specs.Statements.{OneStatement};
-ghost use Rattle.syntax.specs.Parses.{at, Room, AsSteps};
+ghost use Rattle.syntax.specs.Parses.{now, HoldsSame, AsSteps};
 ghost use Rattle.syntax.specs.Reads.{Finishes, NewName, whole_steps, ParsedStatement, Over, Next, TokensRead, ReadAs, fault_number, fault_at};
 
 use crate::ahead::Ahead;
 use crate::fault::SyntaxFault;
-use crate::known::Known;
-use crate::parse;
+use crate::parser::Parser;
 use crate::scope::{Scope, binders};
 use script::reader::Reader;
 use script::statement::{ScriptFault, Span, Statement, StatementKind, begins_with_letter};
@@ -61,70 +60,69 @@ impl ReadFault {
     }
 }
 
-// No word may be left.
-fn finish(r: &Ahead, end: usize) -> Result<(), SyntaxFault>
-    ensures { Finishes end r.now result }
-{
-    if r.at_end() {
-        return Ok(());
-    }
-    Err(SyntaxFault::Misfit(r.here(end)))
-}
-
-// E and nothing more.
-fn whole(k: &Known, r: &mut Ahead, s: &mut Scope, a: &mut Arena) -> Result<usize, SyntaxFault>
-    requires { Room (at r.old s.old a.old) }
-    ensures parsed { AsSteps k.now 1 whole_steps (at r.old s.old a.old) (at r.new s.new a.new) result }
-    ensures over { Over r.new result }
-{
-    let e = parse::expr(k, r, s, a)?;
-    finish(r, k.end)?;
-    Ok(e)
-}
-
-// A name that begins with a letter and is not yet entered.
-fn new_name(k: &Known, r: &mut Ahead, s: &Scope, a: &Arena) -> Result<Span, SyntaxFault>
-    ensures { NewName k.now (at r.old s.now a.now) (at r.new s.now a.now) result }
-{
-    let p = r.here(k.end);
-    let x = r.binder(k.end)?;
-    let name = x.bytes(r.script());
-    if !begins_with_letter(name, 0) {
-        return Err(SyntaxFault::Misfit(p));
-    }
-    match binders::entry_named(r.script(), k.entries, name) {
-        Some(_) => Err(SyntaxFault::KnownName(p)),
-        None => Ok(x),
-    }
-}
-
-// What a statement of this kind has after its first word.
-fn body(
-    k: &Known,
-    r: &mut Ahead,
-    s: &mut Scope,
-    a: &mut Arena,
-    kind: StatementKind,
-) -> Result<usize, SyntaxFault>
-    requires room { Room (at r.old s.old a.old) }
-    requires shut { s.old.names.items ≡ [] }
-    ensures parsed { ParsedStatement k.now kind (at r.old s.old a.old) (at r.new s.new a.new) result }
-    ensures over { Over r.new result }
-{
-    match kind {
-        StatementKind::Def => {
-            new_name(k, r, s, a)?;
-            let e = parse::valued(k, r, s, a)?;
-            finish(r, k.end)?;
-            Ok(e)
+impl Parser<'_> {
+    // No word may be left.
+    fn finish(&self) -> Result<(), SyntaxFault>
+        ensures { Finishes self.now.words result }
+    {
+        if self.words.at_end() {
+            Ok(())
+        } else {
+            Err(self.words.misfit())
         }
-        StatementKind::Axiom => {
-            new_name(k, r, s, a)?;
-            r.expect(Mark::Colon, k.end)?;
-            whole(k, r, s, a)
+    }
+
+    // E and nothing more.
+    fn whole(&mut self) -> Result<usize, SyntaxFault>
+        ensures parsed { AsSteps 1 whole_steps (now self.old) (now self.new) result }
+        ensures over { Over self.new.words result }
+        ensures same { HoldsSame self.old self.new }
+    {
+        let e = self.expr()?;
+        self.finish()?;
+        Ok(e)
+    }
+
+    // A name that begins with a letter and is not yet entered.
+    fn new_name(&mut self) -> Result<Span, SyntaxFault>
+        ensures parsed { NewName (now self.old) (now self.new) result }
+        ensures same { HoldsSame self.old self.new }
+    {
+        let place = self.here();
+        let words = &mut self.words;
+        let x = words.binder()?;
+        let script = words.script();
+        let name = x.bytes(script);
+        if !begins_with_letter(name, 0) {
+            return Err(SyntaxFault::Misfit(place));
         }
-        StatementKind::Check => whole(k, r, s, a),
-        StatementKind::Eval => whole(k, r, s, a),
+        match binders::entry_named(script, self.entries, name) {
+            Some(_) => Err(SyntaxFault::KnownName(place)),
+            None => Ok(x),
+        }
+    }
+
+    // What a statement of this kind has after its first word.
+    fn body(&mut self, kind: StatementKind) -> Result<usize, SyntaxFault>
+        requires { self.old.scope.now.names.items ≡ [] }
+        ensures parsed { ParsedStatement kind (now self.old) (now self.new) result }
+        ensures over { Over self.new.words result }
+        ensures same { HoldsSame self.old self.new }
+    {
+        match kind {
+            StatementKind::Def => {
+                self.new_name()?;
+                let e = self.valued()?;
+                self.finish()?;
+                Ok(e)
+            }
+            StatementKind::Axiom => {
+                self.new_name()?;
+                self.words.expect(Mark::Colon)?;
+                self.whole()
+            }
+            StatementKind::Check | StatementKind::Eval => self.whole(),
+        }
     }
 }
 
@@ -145,10 +143,6 @@ fn read_tokens(
     ensures read { TokensRead script.now (min at (length script.now)) (entry_names script.now entries.now) arena.old arena.new statement result }
     ensures shut { scope.new.names.items ≡ [] }
 {
-    let known = Known {
-        entries,
-        end: statement.end,
-    };
     let mut reader = Reader::from_place(script, at);
     let Some(first) = reader.next_lexeme() else {
         return Err(SyntaxFault::Misfit(statement.end))
@@ -156,8 +150,13 @@ fn read_tokens(
     let Some(kind) = first.kind.statement_kind() else {
         return Err(SyntaxFault::Misfit(first.at))
     };
-    let mut words = Ahead::new(reader);
-    let term = body(&known, &mut words, scope, arena, kind)?;
+    let mut parser = Parser {
+        words: Ahead::new(reader, statement.end),
+        entries,
+        scope,
+        arena,
+    };
+    let term = parser.body(kind)?;
     Ok(Sentence {
         statement,
         kind,
