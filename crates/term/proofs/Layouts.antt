@@ -1,8 +1,9 @@
 -- Cells laid on the top, and taken out.
-use Rattle.std.proofs.Common.{◌≡◌, ℕ, ◌+◌, ◌-◌, ◌*◌, ◌^◌, ◌<◌, ◌≤◌, Bool, true, false, not, ◌||◌, leb, List, [], ◌∷◌, ◌++◌, length, get_or, take, drop, set, Some, None, Option, sym, refl, ap, ◌∙◌, append_assoc, arith, length-append, length-drop}
+use Rattle.std.proofs.Common.{◌≡◌, ℕ, ◌+◌, ◌-◌, ◌*◌, ◌^◌, ◌<◌, ◌≤◌, Bool, true, false, not, ◌||◌, leb, List, [], ◌∷◌, ◌++◌, length, take, drop, Some, None, Option, sym, refl, ap, ◌∙◌, append_assoc, arith, length-append, length-drop}
+use Rattle.std.specs.List.{remove_range}
 use lib.Seq.{paste, take-append-le}
-use Rattle.std.proofs.lemmas.List.{drop-append-le, length-take-le, get_or-drop, take_all, drop_all, append-nil}
-use Rattle.std.proofs.lemmas.List.Edits.{drop-paste, take-paste, paste_more}
+use Rattle.std.proofs.lemmas.List.{drop-append-le, length-take-le, take_all, drop_all, append-nil}
+use Rattle.std.proofs.lemmas.List.Edits.{take-paste}
 use Rattle.term.specs.declared.node.Unary.{Unary}
 use Rattle.term.specs.declared.node.Unary.TheVariants.{Fun, Fst, Snd, Inl, Inr}
 use Rattle.term.specs.declared.node.Binary.{Binary}
@@ -14,38 +15,24 @@ use Rattle.term.specs.declared.node.Cell.TheVariants.{Part}
 use Rattle.term.specs.Forms.{binds, binds_last}
 use Rattle.term.specs.Term.{Term, sort, local, entry, unary, binary, choice, cells, closed, any_local}
 use Rattle.term.specs.Cells.{form, over, bound, reach, high, tree, chain, Sound}
-use Rattle.term.specs.Layout.{without, last, lay, lay_all, cells_of, shut, root_of}
+use Rattle.term.specs.Layout.{last, lay, lay_all, cells_of, shut, root_of}
 use Rattle.term.proofs.Trees.{pushed, cells_pos, taken}
 
-pub without_push : (xs ys : List Cell) (c : Cell) (mark top : ℕ) → mark ≤ top → top ≤ length xs → ys ≡ xs ++ c ∷ [] → without mark top ys ≡ without mark top xs ++ c ∷ []
-without_push xs ys c mark top h l e =
+pub remove_range_push : (xs ys : List Cell) (c : Cell) (mark top : ℕ) → mark ≤ top → top ≤ length xs → ys ≡ xs ++ c ∷ [] → remove_range ys mark top ≡ remove_range xs mark top ++ c ∷ []
+remove_range_push xs ys c mark top h l e =
     let h' : mark ≤ length xs = omega arith in
     rw (e, take-append-le mark xs (c ∷ []) h', drop-append-le top xs (c ∷ []) l) (sym (append_assoc (take mark xs) (drop top xs) (c ∷ [])))
 
-pub length_without : (xs : List Cell) (mark top : ℕ) → mark ≤ top → top ≤ length xs → length (without mark top xs) + (top - mark) ≡ length xs
-length_without xs mark top h l =
+pub length-remove_range : (xs : List Cell) (mark top : ℕ) → mark ≤ top → top ≤ length xs → length (remove_range xs mark top) + (top - mark) ≡ length xs
+length-remove_range xs mark top h l =
     let h' : mark ≤ length xs = omega arith in
     omega (arith, length-append (take mark xs) (drop top xs), length-take-le mark xs h', length-drop top xs)
 
--- a copy down, cell by cell: what it has not reached yet, one cell more, and its end
-module _ (xs : List Cell) (mark top : ℕ) (order : mark ≤ top) where
-  unreached : (i : ℕ) (d : Cell) → top + i < length xs → get_or (paste xs mark (drop top xs) i) (top + i) d ≡ get_or (drop top xs) i d
-  unreached i d l =
-      let s = drop top xs in
-      let a : mark ≤ length xs = omega arith in
-      let b : i ≤ length s = omega (arith, length-drop top xs) in
-      let f : (mark + i) + (top - mark) ≡ top + i = omega arith in
-      cc (get_or-drop (mark + i) (paste xs mark s i) (top - mark) d, drop-paste xs mark s i a b, get_or-drop (mark + i) xs (top - mark) d, get_or-drop top xs i d)
-
-  pub copied_more : (zs : List Cell) (i : ℕ) (x : Cell) → zs ≡ paste xs mark (drop top xs) i → top + i < length xs → x ≡ get_or zs (top + i) x → set zs (mark + i) x ≡ paste xs mark (drop top xs) (i + 1)
-  copied_more zs i x e l r =
-      let b : i < length (drop top xs) = omega (arith, length-drop top xs) in
-      cc (paste_more xs mark (drop top xs) i x (omega arith) b, unreached i x l)
-
-  pub copied_all : (ys zs : List Cell) (n : ℕ) → zs ≡ paste xs mark (drop top xs) n → n + top ≡ length xs → ys ≡ take (mark + n) zs → ys ≡ without mark top xs
-  copied_all ys zs n e l t =
-      let b : n ≡ length (drop top xs) = omega (arith, length-drop top xs) in
-      cc (take-paste xs mark (drop top xs) n (omega arith) (omega arith), take_all n (drop top xs) (omega arith))
+-- what a copy down from top to mark leaves below its end
+pub removed : (xs ys zs : List Cell) (mark top n : ℕ) → mark ≤ top → zs ≡ paste xs mark (drop top xs) n → n + top ≡ length xs → ys ≡ take (mark + n) zs → ys ≡ remove_range xs mark top
+removed xs ys zs mark top n order e l t =
+    let b : n ≡ length (drop top xs) = omega (arith, length-drop top xs) in
+    cc (take-paste xs mark (drop top xs) n (omega arith) (omega arith), take_all n (drop top xs) (omega arith))
 
 -- cells after others, which keep their trees and contexts
 pub record Onto (xs ys : List Cell) : Type 0 where
@@ -76,7 +63,7 @@ more p q =
 seal : {xs ys : List Cell} {t : Term} (c : Node) → Onto xs ys → reach c ≤ length ys → high c < (length ys + 1) * 2 ^ 32 → length ys + 1 ≡ length xs + cells t → form c (tree ys) ≡ t → Laid xs (ys ++ Part c ∷ []) t
 seal {xs} {ys} {t} c o low small n e =
     let zs = ys ++ Part c ∷ [] in
-    let p = pushed {xs = ys} {ys = zs} {c = Part c} refl refl o.sound low small in
+    let p = pushed {xs = ys} {ys = zs} {c = Part c} refl refl o.sound (low, small) in
     let l = length-append ys (Part c ∷ []) in
     let i : last zs ≡ length ys = omega arith in
     record {
@@ -192,5 +179,5 @@ placed_both xs zs mark i o t v s l e e' n q qi qo =
     })
 
 -- nothing is taken out of what stands below the top
-pub without_top : (xs : List Cell) (mark top : ℕ) → top ≡ length xs → without mark top xs ≡ take mark xs
-without_top xs mark top e = rw (drop_all top xs (omega arith)) (append-nil (take mark xs))
+pub remove_range_top : (xs : List Cell) (mark top : ℕ) → top ≡ length xs → remove_range xs mark top ≡ take mark xs
+remove_range_top xs mark top e = rw (drop_all top xs (omega arith)) (append-nil (take mark xs))

@@ -1,5 +1,5 @@
 -- Putting terms for locals.
-use Rattle.std.proofs.Common.{◌≡◌, ℕ, zero, suc, ◌+◌, ◌-◌, ◌<◌, ◌≤◌, true, cond, ltb, List, [], ◌∷◌, map, length, replicate, Some, sym, refl, ap, ◌∙◌, zero-add, arith}
+use Rattle.std.proofs.Common.{◌≡◌, ℕ, zero, suc, ◌+◌, ◌-◌, ◌<◌, ◌≤◌, true, cond, ltb, List, [], ◌∷◌, map, length, get_or, replicate, Some, sym, refl, ap, ◌∙◌, zero-add, arith}
 use lib.ListN.{length-map, length-replicate}
 use Rattle.term.specs.Term.{Term, sort, local, lift, lower, pick, filled, put, closed, all_closed, bare}
 use Rattle.term.specs.Laws.{PutLift, PutLower, PutLiftMore, PutLifted, LiftPut, LowerPut, PutPut, PutInTurn, LowerClosed, PutClosed, ClosedPut, BarePut}
@@ -9,6 +9,21 @@ use Rattle.term.proofs.Lifting.{walks, walk_walk, lift_zero, lift_lift, lift_swa
 pick_past : (vs : List Term) (p k : ℕ) → length vs ≤ k → pick vs p k ≡ local p (k - length vs)
 pick_past [] p k h = grind arith
 pick_past (v ∷ vs) p k h = grind (arith, pick_past vs p (k - 1))
+
+-- a local among the terms at some indices
+pick_at : (f : ℕ → Term) (is : List ℕ) (p k : ℕ) → k < length is → pick (map f is) p k ≡ f (get_or is k 0)
+pick_at f [] p k h = absurd (omega arith)
+pick_at f (j ∷ is) p zero h = refl
+pick_at f (j ∷ is) p (suc k) h = grind (arith, pick_at f is p k)
+
+pub filled_at : (f : ℕ → Term) (is : List ℕ) (d p k : ℕ) → d ≤ k → k - d < length is → filled (map f is) d p k ≡ lift d 0 (f (get_or is (k - d) 0))
+filled_at f is d p k h l = let x = pick_at f is p (k - d) l in grind arith
+
+pub filled_past : (f : ℕ → Term) (is : List ℕ) (d p k : ℕ) → d ≤ k → length is ≤ k - d → filled (map f is) d p k ≡ local p (k - length is)
+filled_past f is d p k h l =
+    let n = length-map is f in
+    let x = pick_past (map f is) p (k - d) (omega arith) in
+    grind arith
 
 pub put_lift_more : PutLiftMore
 put_lift_more vs n d e t h h' = walk_walk _ _ _ e d d (λ j p k. grind (arith, pick_past vs p (k + (n + length vs) - (j + e)))) t

@@ -1,12 +1,12 @@
 -- The tree of a cell depends on the cells below it alone.
-use Rattle.std.proofs.Common.{◌≡◌, ℕ, zero, suc, ◌+◌, ◌*◌, ◌^◌, ◌<◌, ◌≤◌, List, [], ◌∷◌, ◌++◌, length, get_or, take, Some, None, Option, sym, refl, ap, ◌∙◌, arith, length-append, length-take, below_more}
+use Rattle.std.proofs.Common.{◌≡◌, ℕ, zero, suc, ◌<◌, ◌≤◌, List, [], ◌∷◌, ◌++◌, length, get_or, take, Some, None, Option, sym, refl, ap, ◌∙◌, arith, length-append, length-take, below_more}
 use Rattle.std.proofs.lemmas.List.{get_or_append_left, get_or_at, get_or-take}
 use Rattle.term.specs.declared.node.Node.{Node}
 use Rattle.term.specs.declared.node.Node.TheVariants.{Sort, Local, Entry, One, Two, Match}
 use Rattle.term.specs.declared.node.Cell.{Cell}
 use Rattle.term.specs.declared.node.Cell.TheVariants.{Part, Under}
 use Rattle.term.specs.Term.{Term, sort, local, entry, unary, binary, choice, cells}
-use Rattle.term.specs.Cells.{Bound, form, root, over, typed, bound, links, reach, span, peak, blank, tree_to, tree, chain_to, chain, Sound}
+use Rattle.term.specs.Cells.{Bound, form, root, over, typed, bound, links, reach, span, blank, tree_to, tree, chain_to, chain, MayStandAt, Sound}
 
 pub form_cong : (c : Node) (n : ℕ) (f g : ℕ → Term) → reach c ≤ n → ((j : ℕ) → j < n → f j ≡ g j) → form c f ≡ form c g
 form_cong (Sort p s) n f g h e = refl
@@ -49,11 +49,11 @@ unfolding tree tree_to
 tree_at xs i s h = root_cong (get_or xs i blank) i (tree_to i xs) (tree xs) (s i h).0 (λ j q. same i (suc j) xs xs (length xs) j s (omega arith) (λ _ _. refl) (omega arith) q (omega arith))
 
 -- one cell more
-sound_push : (xs : List Cell) (c : Cell) → Sound xs → span c ≤ length xs → peak c < (length xs + 1) * 2 ^ 32 → Sound (xs ++ c ∷ [])
-sound_push xs c s low small i h =
-    below_more (λ i. (span (get_or (xs ++ c ∷ []) i blank) ≤ i) × (peak (get_or (xs ++ c ∷ []) i blank) < (i + 1) * 2 ^ 32)) (length xs)
+sound_push : (xs : List Cell) (c : Cell) → Sound xs → MayStandAt (length xs) c → Sound (xs ++ c ∷ [])
+sound_push xs c s fits i h =
+    below_more (λ i. MayStandAt i (get_or (xs ++ c ∷ []) i blank)) (length xs)
     (λ k q. rw (get_or_append_left xs (c ∷ []) blank k q) (s k q))
-    (rw (get_or_at xs c [] blank (length xs) refl) (low, small))
+    (rw (get_or_at xs c [] blank (length xs) refl) fits)
     i (omega (arith, length-append xs (c ∷ [])))
 
 kept_push : (xs : List Cell) (c : Cell) → Sound xs → ((k : ℕ) → k < length xs → tree (xs ++ c ∷ []) k ≡ tree xs k)
@@ -98,11 +98,11 @@ pub record Pushed (xs ys : List Cell) (c : Cell) (n : ℕ) : Type 0 where
   pub made : tree ys n ≡ root c (tree xs)
   pub linked : chain ys (Some n) ≡ links c (tree xs) (chain xs)
 
-pub pushed : {xs ys : List Cell} {c : Cell} {n : ℕ} → ys ≡ xs ++ c ∷ [] → n ≡ length xs → Sound xs → span c ≤ n → peak c < (n + 1) * 2 ^ 32 → Pushed xs ys c n
-pushed {xs} {ys} {c} {n} e l s low small =
+pub pushed : {xs ys : List Cell} {c : Cell} {n : ℕ} → ys ≡ xs ++ c ∷ [] → n ≡ length xs → Sound xs → MayStandAt n c → Pushed xs ys c n
+pushed {xs} {ys} {c} {n} e l s fits =
     rw (e, l)
-    (let t = sound_push xs c s (rw l at low) (rw l at small) in
-    record { sound = t; kept = kept_push xs c s; chains = chains_push xs c s; made = tree_push xs c s t (rw l at low); linked = chain_push xs c s t (rw l at low) })
+    (let t = sound_push xs c s (rw l at fits) in
+    record { sound = t; kept = kept_push xs c s; chains = chains_push xs c s; made = tree_push xs c s t (rw l at fits.0); linked = chain_push xs c s t (rw l at fits.0) })
 
 pub cells_pos : (t : Term) → 0 < cells t
 cells_pos (sort p s) = omega arith

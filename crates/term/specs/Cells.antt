@@ -100,6 +100,10 @@ chain_to (suc n) xs (Some i) = links (slice_index_or xs i blank) (tree xs) (chai
 unfoldable pub chain : List Cell → Option ℕ → List Bound
 chain xs o = chain_to (over o) xs o
 
--- every child lies below its parent, and locals grow slowly
+-- a cell may stand at an index: its parts lie below it, and the number of a local is not too high
+abbrev pub MayStandAt : ℕ → Cell → Type 0
+MayStandAt i c = (span c ≤ i) × (peak c < (i + 1) * 2 ^ 32)
+
+-- each cell may stand where it does
 abbrev pub Sound : List Cell → Type 0
-Sound xs = (i : ℕ) → i < length xs → (span (slice_index_or xs i blank) ≤ i) × (peak (slice_index_or xs i blank) < (i + 1) * 2 ^ 32)
+Sound xs = (i : ℕ) → i < length xs → MayStandAt i (slice_index_or xs i blank)

@@ -1,11 +1,13 @@
 -- How a tree is stored: compactly, with no sharing, each part before its whole.
-use Rattle.std.specs.Prelude.{◌≡◌, ℕ, ◌+◌, ◌-◌, ◌<◌, ◌≤◌, Bool, true, List, [], ◌∷◌, ◌++◌, length, take, drop, Some, None, vec_items, Option, Result, MatchResult}
+use Rattle.std.specs.Prelude.{◌≡◌, ℕ, ◌+◌, ◌-◌, ◌<◌, ◌≤◌, Bool, true, List, [], ◌∷◌, ◌++◌, length, take, Some, None, vec_items, Option, Result, MatchResult}
 use Rattle.term.specs.declared.node.Cell.{Cell}
 use Rattle.term.specs.declared.node.Cell.TheVariants.{Part}
 use Rattle.term.specs.declared.node.Node.TheVariants.{Sort, Local, Entry, One, Two, Match}
 use Rattle.term.specs.declared.faults.Spent.{Spent}
 use Rattle.term.specs.declared.node.Stored.{Stored}
+use Rattle.std.specs.List.{remove_range}
 use Rattle.term.specs.declared.arena.Arena.{Arena}
+use Rattle.term.specs.declared.arena.gap.Gap.{Gap}
 use Rattle.term.specs.Term.{Term, sort, local, entry, unary, binary, choice, cells, closed}
 use Rattle.term.specs.Cells.{over, bound}
 use Rattle.term.specs.State.{cells_in, term, ctx, Kept}
@@ -25,16 +27,16 @@ lay xs (choice p E F G) =
     lay (lay (lay xs E) F) G
     ++ Part (Match p (last (lay xs E)) (last (lay (lay xs E) F)) (last (lay (lay (lay xs E) F) G))) ∷ []
 
--- the cells without those from mark to top
-abbrev pub without : ℕ → ℕ → List Cell → List Cell
-without mark top xs = take mark xs ++ drop top xs
+-- the cells of an arena once the gap is closed
+abbrev pub close : Arena → Gap → List Cell
+close a g = remove_range (vec_items a.pool) g.mark g.top
 
 -- cells were laid on the top of the arena, each with its parts at the places that they have once
--- the cells from mark to top are taken out: then the list is ys, and its last cell the one named
-pub record Lays (a b : Arena) (mark top : ℕ) (ys : List Cell) (cost : ℕ) (r : Result ℕ Spent) : Type 0 where
+-- the gap is closed: then the list is ys, and its last cell the one named
+pub record Lays (a b : Arena) (g : Gap) (ys : List Cell) (cost : ℕ) (r : Result ℕ Spent) : Type 0 where
   pub kept : Kept a b
   pub fair : cells_in b + b.left ≤ cells_in a + a.left
-  pub made : MatchResult r (λ i. (without mark top (vec_items b.pool) ≡ ys) × (i ≡ last ys) × (i < cells_in b) × (cells_in b ≡ cells_in a + cost) × (b.left + cost ≡ a.left)) (λ _. a.left < cost)
+  pub made : MatchResult r (λ i. (close b g ≡ ys) × (i ≡ last ys) × (i < cells_in b) × (cells_in b ≡ cells_in a + cost) × (b.left + cost ≡ a.left)) (λ _. a.left < cost)
 
 -- the same of a term that may be missing
 abbrev pub lay_all : List Cell → Option Term → List Cell
@@ -54,10 +56,10 @@ abbrev pub root_of : List Cell → Option Term → Option ℕ
 root_of ys None = None
 root_of ys (Some t) = Some (last ys)
 
-pub record LaysAll (a b : Arena) (mark top : ℕ) (v : Option Term) (r : Result (Option ℕ) Spent) : Type 0 where
+pub record LaysAll (a b : Arena) (g : Gap) (v : Option Term) (r : Result (Option ℕ) Spent) : Type 0 where
   pub kept : Kept a b
   pub fair : cells_in b + b.left ≤ cells_in a + a.left
-  pub made : MatchResult r (λ o. (without mark top (vec_items b.pool) ≡ lay_all (without mark top (vec_items a.pool)) v) × (o ≡ root_of (without mark top (vec_items b.pool)) v) × (cells_in b ≡ cells_in a + cells_of v) × (b.left + cells_of v ≡ a.left)) (λ _. a.left < cells_of v)
+  pub made : MatchResult r (λ o. (close b g ≡ lay_all (close a g) v) × (o ≡ root_of (close b g) v) × (cells_in b ≡ cells_in a + cells_of v) × (b.left + cells_of v ≡ a.left)) (λ _. a.left < cells_of v)
 
 -- a type t and perhaps a value v stand right above the mark, and nothing after them; what lies
 -- below the mark is as it was

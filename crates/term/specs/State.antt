@@ -48,6 +48,14 @@ pub record Kept (a b : Arena) : Type 0 where
   pub trees : (k : ℕ) → k < cells_in a → term b k ≡ term a k
   pub chains : (o : Option ℕ) → over o ≤ cells_in a → ctx b o ≡ ctx a o
 
+-- the binders over a tree, and two for each cell of it, are counted in 32 bits
+abbrev pub Shallow : ℕ → ℕ → Type 0
+Shallow d i = d + 2 * min i 1000000 < 2 ^ 32
+
+-- there is a free cell beyond those for what is left
+abbrev pub HasSpare : Arena → Type 0
+HasSpare a = cells_in a + a.left < a.limit
+
 -- what is known of the cell at an index, a blank one where the index is past the last cell
 pub record Holds (a : Arena) (i : ℕ) (c : Cell) : Type 0 where
   pub low : span c ≤ i

@@ -1,43 +1,22 @@
--- What the inner walks of the arena do to a local, and ask of it. No public contract cites this file.
-use Rattle.std.specs.Prelude.{ℕ, suc, ◌+◌, ◌-◌, ◌^◌, ◌<◌, max, Bool, cond, [], ◌∷◌, Some, None, Option, nat_le}
-use Rattle.term.specs.declared.change.Change.{Change}
-use Rattle.term.specs.declared.change.Change.TheVariants.{Lift, Lower, Put, PutBoth}
-use Rattle.term.specs.declared.change.Aim.{Aim}
-use Rattle.term.specs.declared.change.Aim.TheVariants.{Given, Other}
-use Rattle.term.specs.declared.change.Test.{Test}
-use Rattle.term.specs.declared.change.Test.TheVariants.{Names, Leaves}
+-- What the inner walks of the arena need and cost. No public contract cites this file.
+use Rattle.std.specs.Prelude.{◌≡◌, ℕ, suc, ◌-◌, ◌<◌, cond, List, [], ◌∷◌, map, All, Some, None, Option, nat_le, refl}
+use Rattle.std.proofs.Common.{arith, ap₂}
 use Rattle.term.specs.declared.arena.Arena.{Arena}
-use Rattle.term.specs.State.{term}
-use Rattle.term.specs.Term.{Term, local, raised, lowered, filled, lift, naming, leaving}
+use Rattle.term.specs.State.{cells_in, term, Kept}
 
--- what a change does to a local with d binders over it
-abbrev pub changed : Arena → Change → ℕ → ℕ → ℕ → Term
-changed a (Lift n) = raised n
-changed a (Lower n) = lowered n
-changed a (Put v) = filled (term a v ∷ [])
-changed a (PutBoth v w) = filled (term a v ∷ (term a w ∷ []))
+-- each index is that of a cell
+abbrev pub AllIn : Arena → List ℕ → Type 0
+AllIn a is = All (λ i. i < cells_in a) is
 
--- one past the highest term that is put in
-abbrev pub top : Change → ℕ
-top (Lift n) = 0
-top (Lower n) = 0
-top (Put v) = suc v
-top (PutBoth v w) = max (suc v) (suc w)
+-- it stays that of the same term, whatever cells are added
+pub all_in_kept : {a b : Arena} (is : List ℕ) → Kept a b → AllIn a is → AllIn b is
+all_in_kept is k h j d l = omega (arith, k.long, h j d l)
 
--- the term that stands for a local with d binders over it
-abbrev pub aimed : Arena → ℕ → Aim → Term
-aimed a d (Given v) = lift d 0 (term a v)
-aimed a d (Other p k) = local p k
-
--- it is one of those that are put in, or its number has grown by no more than a lift
-abbrev pub Aims : Change → ℕ → Aim → Type 0
-Aims x k (Given v) = v < top x
-Aims x k (Other p j) = j < k + 2 ^ 32
-
--- what is asked of a local with d binders over it
-abbrev pub asked : Test → ℕ → ℕ → Bool
-asked (Names n) = naming n
-asked Leaves = leaving
+pub terms_kept : {a b : Arena} (is : List ℕ) → Kept a b → AllIn a is → map (term b) is ≡ map (term a) is
+terms_kept [] k h = refl
+terms_kept (i ∷ is) k h =
+    ap₂ (λ t ts. t ∷ ts) (k.trees i (h 0 0 (omega arith)))
+    (terms_kept is k (λ j d l. h (suc j) d (omega arith)))
 
 -- what is left of a purse after a cost, or none where the cost is too high
 abbrev pub rest : ℕ → ℕ → Option ℕ

@@ -6,11 +6,16 @@ use crate::node::Cell;
 
 pub mod cells;
 pub mod contexts;
+mod gap;
 pub mod looks;
 pub mod store;
 pub mod walks;
 
+// The most cells that an arena may have.
+pub const MOST_CELLS: usize = 1_000_000;
+
 // At most `limit` cells, for which there is room from the start. The free ones suffice for what is left.
+// Stays: all memory is reserved at the start, so a term is an index and not a box, and a shared part is one cell.
 #[derive(Drop)]
 pub struct Arena {
     pool: Vec<Cell>,

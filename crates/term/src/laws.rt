@@ -2,6 +2,7 @@
 ghost use Rattle.term.specs.Laws.{SubstitutionLaws};
 
 // Does nothing; its contract is that the laws hold.
+#[tactic(auto, using(crate::proofs::Lifting::lifting, crate::proofs::Putting::putting))]
 pub fn capture_is_impossible()
     ensures { SubstitutionLaws }
 {}

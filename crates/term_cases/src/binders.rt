@@ -11,7 +11,7 @@ fn shadowed(rt: HostRuntime) -> Result<(), Fail> {
     let y = a.make(Node::Local(1, 1))?;
     let call = a.make(Node::Two(2, Binary::App, x, y))?;
     let body = a.make(Node::One(3, Unary::Fun, call))?;
-    let got = a.put(x, body)?;
+    let got = a.put(&[x], body)?;
     assert!(rt; a.equal(got, body));
     let both = a.make(Node::Two(2, Binary::App, x, x))?;
     let captured = a.make(Node::One(3, Unary::Fun, both))?;
@@ -28,7 +28,7 @@ fn two_in_order(rt: HostRuntime) -> Result<(), Fail> {
     let near = a.make(Node::Sort(0, 1))?;
     let far = a.make(Node::Sort(0, 2))?;
     let call = a.make(Node::Two(0, Binary::App, x, y))?;
-    let got = a.put_both(near, far, call)?;
+    let got = a.put(&[near, far], call)?;
     let want = a.make(Node::Two(9, Binary::App, near, far))?;
     assert!(rt; a.equal(got, want));
     Ok(())
@@ -60,7 +60,7 @@ fn match_arms(rt: HostRuntime) -> Result<(), Fail> {
     let one = a.make(Node::Local(0, 1))?;
     let sort = a.make(Node::Sort(0, 5))?;
     let arms = a.make(Node::Match(0, zero, one, zero))?;
-    let got = a.put(sort, arms)?;
+    let got = a.put(&[sort], arms)?;
     let want = a.make(Node::Match(0, sort, sort, zero))?;
     assert!(rt; a.equal(got, want));
     Ok(())

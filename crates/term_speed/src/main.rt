@@ -5,9 +5,8 @@
 ghost use Rattle.std.specs.Prelude.{ℕ, ◌<◌, IfOk};
 ghost use Rattle.term.specs.State.{cells_in, Kept};
 
-use anyhow::anyhow;
 use std::time::Instant;
-use term::arena::Arena;
+use term::arena::{Arena, MOST_CELLS};
 use term::faults::Spent;
 use term::laws;
 use term::node::{Binary, Node, Unary};
@@ -34,27 +33,19 @@ fn grow(arena: &mut Arena, size: usize, leaf: u64) -> Result<usize, Spent>
 
 // The cells of a tree, which are few enough.
 fn cells(arena: &Arena, id: usize) -> usize {
-    arena.count(id, 1_000_000).unwrap_or(0)
+    arena.count(id, MOST_CELLS).unwrap_or(0)
 }
 
 // Lifts a tree of `size` cells by 1, and puts a sort into it.
 fn measure(rt: &HostRuntime, size: usize) -> anyhow::Result<()> {
-    let mut arena = match Arena::new(rt.alloc(), 1_000_000) {
-        Ok(arena) => arena,
-        Err(_) => return Err(anyhow!("no memory")),
-    };
-    let (Ok(tree), Ok(sort)) = (grow(&mut arena, size, 0), arena.make(Node::Sort(0, 0))) else {
-        return Err(anyhow!("too few cells"));
-    };
+    let mut arena = Arena::new(rt.alloc(), MOST_CELLS)?;
+    let tree = grow(&mut arena, size, 0)?;
+    let sort = arena.make(Node::Sort(0, 0))?;
     let start = Instant::now(rt)?;
-    let Ok(lifted) = arena.lift(1, tree) else {
-        return Err(anyhow!("too few cells"));
-    };
+    let lifted = arena.lift(1, tree)?;
     let lifting = start.elapsed(rt)?.as_micros();
     let start = Instant::now(rt)?;
-    let Ok(put) = arena.put(sort, tree) else {
-        return Err(anyhow!("too few cells"));
-    };
+    let put = arena.put(&[sort], tree)?;
     let putting = start.elapsed(rt)?.as_micros();
     let tree = cells(&arena, tree);
     let lifted = cells(&arena, lifted);

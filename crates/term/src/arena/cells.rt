@@ -1,29 +1,32 @@
 //! Making the arena, reading and adding cells, and paying for them.
 ghost use Rattle.std.specs.Prelude.{◌≡◌, ℕ, ◌+◌, ◌*◌, ◌^◌, ◌<◌, ◌≤◌};
-ghost use Rattle.term.specs.Cells.{form, reach, high, span, peak};
-ghost use Rattle.term.specs.State.{term, cells_in, Opened, Holds, Read, Spends, Pushes, Added, Built, Allots, Rewound};
+ghost use Rattle.term.specs.Cells.{form, MayStandAt};
+ghost use Rattle.term.specs.State.{term, cells_in, Opened, Holds, Read, Spends, Pushes, Added, Built, Allots, Rewound, HasSpare};
+ghost use Rattle.term.specs.Term.{place};
+ghost use Rattle.term.specs.declared.node.Cell.TheVariants.{Part};
 
-use crate::arena::Arena;
+use crate::arena::{Arena, MOST_CELLS};
 use crate::faults::{Full, Spent, Unmade};
 use crate::node::{Cell, Node};
 use std::alloc::Global;
+
+// The root of the tree where no term stands.
+const BLANK: Node = Node::Sort(0, 0);
 
 impl Arena {
     // An empty arena for `limit` cells, with all of them as its budget.
     pub fn new(heap: Global, limit: usize) -> Result<Arena, Unmade>
         ensures { Opened limit result }
     {
-        if limit == 0 || limit > 1_000_000 {
+        if !(1..=MOST_CELLS).contains(&limit) {
             return Err(Unmade::Size);
         }
-        match Vec::with_capacity(heap, limit) {
-            Ok(pool) => Ok(Arena {
-                pool,
-                left: limit,
-                limit,
-            }),
-            Err(_) => Err(Unmade::Memory),
-        }
+        let pool = Vec::with_capacity(heap, limit)?;
+        Ok(Arena {
+            pool,
+            left: limit,
+            limit,
+        })
     }
 
     // What is left of the budget.
@@ -44,18 +47,15 @@ impl Arena {
     pub fn spend(&mut self, cost: usize) -> Result<(), Spent>
         ensures { Spends self.old self.new cost result }
     {
-        if self.left < cost {
-            return Err(Spent);
-        }
-        self.left -= cost;
+        self.left = self.left.checked_sub(cost).ok_or(Spent)?;
         Ok(())
     }
 
     // One cell more, which `spend` has paid for: what it refers to is there, and there is room.
+    #[tactic(auto, using(crate::proofs::Trees::pushed))]
     pub(super) fn push(&mut self, cell: Cell) -> usize
-        requires free { cells_in self.old + self.old.left < self.old.limit }
-        requires lower { span cell ≤ cells_in self.old }
-        requires small { peak cell < (cells_in self.old + 1) * 2 ^ 32 }
+        requires free { HasSpare self.old }
+        requires fits { MayStandAt (cells_in self.old) cell }
         ensures { Pushes self.old self.new cell result }
     {
         let id = self.pool.len();
@@ -65,9 +65,8 @@ impl Arena {
 
     // One cell of a term more, which `spend` has paid for.
     pub fn add(&mut self, node: Node) -> usize
-        requires free { cells_in self.old + self.old.left < self.old.limit }
-        requires lower { reach node ≤ cells_in self.old }
-        requires small { high node < (cells_in self.old + 1) * 2 ^ 32 }
+        requires free { HasSpare self.old }
+        requires fits { MayStandAt (cells_in self.old) (Part node) }
         ensures { Added self.old self.new node result }
     {
         self.push(Cell::Part(node))
@@ -75,8 +74,7 @@ impl Arena {
 
     // One cell more, which costs 1.
     pub fn make(&mut self, node: Node) -> Result<usize, Spent>
-        requires lower { reach node ≤ cells_in self.old }
-        requires small { high node < (cells_in self.old + 1) * 2 ^ 32 }
+        requires fits { MayStandAt (cells_in self.old) (Part node) }
         ensures { Built self.old self.new 1 (form node (term self.old)) result }
     {
         self.spend(1)?;
@@ -87,11 +85,7 @@ impl Arena {
     pub(super) fn cell(&self, id: usize) -> Cell
         ensures { Holds self.now id result }
     {
-        if id < self.pool.len() {
-            self.pool[id]
-        } else {
-            Cell::Part(Node::Sort(0, 0))
-        }
+        self.pool.get(id).copied().unwrap_or(Cell::Part(BLANK))
     }
 
     // The root of the tree at `id`, a blank one where no term stands there.
@@ -100,8 +94,15 @@ impl Arena {
     {
         match self.cell(id) {
             Cell::Part(node) => node,
-            Cell::Under(_) => Node::Sort(0, 0),
+            Cell::Under(_) => BLANK,
         }
+    }
+
+    // The place of the tree at `id`.
+    pub fn place(&self, id: usize) -> usize
+        ensures { result ≡ place (term self.now id) }
+    {
+        self.at(id).place()
     }
 
     // How many cells may still be added.
@@ -123,6 +124,7 @@ impl Arena {
     }
 
     // Lets the cells from `mark` on go.
+    #[tactic(auto, using(crate::proofs::Trees::taken))]
     pub fn rewind(&mut self, mark: usize)
         ensures { Rewound self.old self.new mark }
     {

@@ -22,18 +22,13 @@ impl Arena {
     pub fn binder(&self, context: Option<usize>, k: u64) -> Option<Binder>
         ensures { Found self.now context k result }
     {
-        match context {
-            None => None,
-            Some(id) => match self.cell(id) {
-                Cell::Part(_) => None,
-                Cell::Under(binder) => {
-                    if k == 0 {
-                        Some(binder)
-                    } else {
-                        self.binder(binder.outer, k - 1)
-                    }
-                }
-            },
+        let Cell::Under(binder) = self.cell(context?) else {
+            return None;
+        };
+        if k == 0 {
+            Some(binder)
+        } else {
+            self.binder(binder.outer, k - 1)
         }
     }
 }

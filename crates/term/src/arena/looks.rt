@@ -1,11 +1,11 @@
 //! Questions about trees that cost nothing: counting cells, equality, whether a tree is closed.
 ghost use Rattle.std.specs.Prelude.{◌≡◌, ℕ, ◌+◌, ◌*◌, ◌^◌, ◌<◌, ◌≤◌, min, MatchBool, ◌≢◌};
-ghost use Rattle.term.specs.State.{term, capped};
+ghost use Rattle.term.specs.State.{term, capped, Shallow};
 ghost use Rattle.term.specs.Term.{cells, bare, any_local, names, closed};
-ghost use Rattle.term.specs.Walk.{asked, rest};
+ghost use Rattle.term.specs.Walk.{rest};
 
 use crate::arena::Arena;
-use crate::change::Test;
+use crate::change::{Leaves, Names, Test};
 use crate::node::Node;
 
 impl Arena {
@@ -18,13 +18,11 @@ impl Arena {
     }
 
     // What is left of `purse` once each cell of the tree has cost 1.
+    #[tactic(auto, using(crate::proofs::Trees::cells_pos))]
     fn pay(&self, id: usize, purse: usize) -> Option<usize>
         ensures { result ≡ rest purse (cells (term self.now id)) }
     {
-        if purse == 0 {
-            return None;
-        }
-        let purse = purse - 1;
+        let purse = purse.checked_sub(1)?;
         match self.at(id) {
             Node::Sort(_, _) | Node::Local(_, _) | Node::Entry(_, _) => { Some(purse) }
             Node::One(_, _, a) => self.pay(a, purse),
@@ -66,20 +64,20 @@ impl Arena {
     pub fn names(&self, n: u32, id: usize) -> bool
         ensures { result ≡ names n 0 (term self.now id) }
     {
-        self.any_local(Test::Names(n), 0, id)
+        self.any_local(Names(n), 0, id)
     }
 
     // Whether no local of the tree points out of it.
     pub fn closed(&self, id: usize) -> bool
         ensures { result ≡ closed 0 (term self.now id) }
     {
-        !self.any_local(Test::Leaves, 0, id)
+        !self.any_local(Leaves, 0, id)
     }
 
     // Whether the test holds of a local of the tree, over which `cut` binders stand.
-    fn any_local(&self, test: Test, cut: u32, id: usize) -> bool
-        requires { cut + 2 * min id 1000000 < 2 ^ 32 }
-        ensures { result ≡ any_local (asked test) cut (term self.now id) }
+    fn any_local<T: Test>(&self, test: T, cut: u32, id: usize) -> bool
+        requires { Shallow cut id }
+        ensures { result ≡ any_local (T.asked test) cut (term self.now id) }
     {
         match self.at(id) {
             Node::Sort(_, _) | Node::Entry(_, _) => false,
@@ -93,18 +91,6 @@ impl Arena {
                     || self.any_local(test, 1 + cut, l)
                     || self.any_local(test, 1 + cut, r)
             }
-        }
-    }
-}
-
-impl Test {
-    // Whether it holds of the local `k`, with `cut` binders over it.
-    fn holds(self, cut: u32, k: u64) -> bool
-        ensures { result ≡ asked self cut k }
-    {
-        match self {
-            Test::Names(n) => u64::from(cut) <= k && k < u64::from(cut) + u64::from(n),
-            Test::Leaves => u64::from(cut) <= k,
         }
     }
 }

@@ -1,11 +1,10 @@
 //! Lifting, lowering and putting in: one walk, which makes a new tree and costs its cells.
-ghost use Rattle.std.specs.Prelude.{◌≡◌, ℕ, ◌+◌, ◌*◌, ◌^◌, ◌<◌, ◌≤◌, min, [], ◌∷◌};
-ghost use Rattle.term.specs.State.{term, cells_in, Built, Lowered};
+ghost use Rattle.std.specs.Prelude.{◌≡◌, ℕ, ◌+◌, ◌*◌, ◌^◌, ◌<◌, ◌≤◌, min, All, map};
+ghost use Rattle.term.specs.State.{term, cells_in, Built, Lowered, Shallow};
 ghost use Rattle.term.specs.Term.{cells, walk, lift, lower, put};
-ghost use Rattle.term.specs.Walk.{changed, top, aimed, Aims};
 
 use crate::arena::Arena;
-use crate::change::{Aim, Change};
+use crate::change::{Change, Lift, Lower, Put};
 use crate::faults::Spent;
 use crate::node::Node;
 
@@ -14,7 +13,7 @@ impl Arena {
     pub fn lift(&mut self, n: u32, id: usize) -> Result<usize, Spent>
         ensures { Built self.old self.new (cells (lift n 0 (term self.old id))) (lift n 0 (term self.old id)) result }
     {
-        self.walk(Change::Lift(n), 0, id)
+        self.walk(Lift(n), 0, id)
     }
 
     // A copy of the tree without the `n` nearest binders, or none, at no cost, if one is named.
@@ -24,73 +23,26 @@ impl Arena {
         if self.names(n, id) {
             return Ok(None);
         }
-        let low = self.walk(Change::Lower(n), 0, id)?;
-        Ok(Some(low))
+        self.walk(Lower(n), 0, id).map(Some)
     }
 
-    // The tree with `arg`, which is there, put in for the nearest binder.
-    pub fn put(&mut self, arg: usize, id: usize) -> Result<usize, Spent>
-        requires { arg < cells_in self.old }
-        ensures { Built self.old self.new (cells (put (term self.old arg ∷ []) 0 (term self.old id))) (put (term self.old arg ∷ []) 0 (term self.old id)) result }
+    // The tree with terms put in for its nearest binders, the first for the nearest one.
+    pub fn put(&mut self, args: &[usize], id: usize) -> Result<usize, Spent>
+        requires { All (λ i. i < cells_in self.old) args.now }
+        ensures { Built self.old self.new (cells (put (map (term self.old) args.now) 0 (term self.old id))) (put (map (term self.old) args.now) 0 (term self.old id)) result }
     {
-        self.walk(Change::Put(arg), 0, id)
-    }
-
-    // The tree with `near` put in for the nearest binder and `far` for the next one.
-    pub fn put_both(&mut self, near: usize, far: usize, id: usize) -> Result<usize, Spent>
-        requires near { near < cells_in self.old }
-        requires far { far < cells_in self.old }
-        ensures { Built self.old self.new (cells (put (term self.old near ∷ (term self.old far ∷ [])) 0 (term self.old id))) (put (term self.old near ∷ (term self.old far ∷ [])) 0 (term self.old id)) result }
-    {
-        self.walk(Change::PutBoth(near, far), 0, id)
-    }
-
-    // What stands for the local `k` at the place `p`, with `cut` binders over it.
-    fn aim(&self, change: Change, cut: u32, p: usize, k: u64) -> Aim
-        requires given { top change ≤ cells_in self.now }
-        requires small { k ≤ cells_in self.now * 2 ^ 32 }
-        ensures is { changed self.now change cut p k ≡ aimed self.now cut result }
-        ensures low { Aims change k result }
-    {
-        let under = u64::from(cut);
-        if k < under {
-            return Aim::Other(p, k);
-        }
-        match change {
-            Change::Lift(n) => Aim::Other(p, k + u64::from(n)),
-            Change::Lower(n) => Aim::Other(p, k.saturating_sub(u64::from(n))),
-            Change::Put(v) => {
-                if k == under {
-                    Aim::Given(v)
-                } else {
-                    Aim::Other(p, k - 1)
-                }
-            }
-            Change::PutBoth(v, w) => {
-                if k == under {
-                    Aim::Given(v)
-                } else if k == under + 1 {
-                    Aim::Given(w)
-                } else {
-                    Aim::Other(p, k - 2)
-                }
-            }
-        }
+        self.walk(Put(args), 0, id)
     }
 
     // The tree, over which `cut` binders stand, with each local changed.
-    fn walk(&mut self, change: Change, cut: u32, id: usize) -> Result<usize, Spent>
-        requires given { top change ≤ cells_in self.old }
-        requires shallow { cut + 2 * min id 1000000 < 2 ^ 32 }
-        ensures { Built self.old self.new (cells (walk (changed self.old change) cut (term self.old id))) (walk (changed self.old change) cut (term self.old id)) result }
+    fn walk<C: Change>(&mut self, change: C, cut: u32, id: usize) -> Result<usize, Spent>
+        requires given { C.given change self.old }
+        requires shallow { Shallow cut id }
+        ensures { Built self.old self.new (cells (walk (C.changed change self.old) cut (term self.old id))) (walk (C.changed change self.old) cut (term self.old id)) result }
     {
         match self.at(id) {
-            Node::Sort(p, s) => self.make(Node::Sort(p, s)),
-            Node::Local(p, k) => match self.aim(change, cut, p, k) {
-                Aim::Given(v) => self.walk(Change::Lift(cut), 0, v),
-                Aim::Other(p, k) => self.make(Node::Local(p, k)),
-            },
-            Node::Entry(p, j) => self.make(Node::Entry(p, j)),
+            leaf @ (Node::Sort(_, _) | Node::Entry(_, _)) => self.make(leaf),
+            Node::Local(p, k) => change.local(self, cut, p, k),
             Node::One(p, form, a) => {
                 let a = self.walk(change, form.binders() + cut, a)?;
                 self.make(Node::One(p, form, a))

@@ -1,9 +1,10 @@
-use Rattle.std.proofs.Common.{arith}
-use Rattle.term.proofs.States.{read, past}
+use Rattle.std.proofs.Common.{ap, ◌∙◌}
+use Rattle.std.specs.Prelude.{unwrap_or}
+use Rattle.term.specs.Cells.{blank}
+use Rattle.term.proofs.States.{read_or}
 use Rattle.term.proofs.arena.Arena.cell.Goals as goal
 
-pub returns-then-id-len : goal.returns-then-id-len
-returns-then-id-len c = read c.args.self.now c.args.id c.index.result.now c.index.ensures (omega arith)
-
-pub returns-else-id-len : goal.returns-else-id-len
-returns-else-id-len c = past c.args.self.now c.args.id (omega arith)
+pub returns : goal.returns
+returns c =
+    read_or c.args.self.now c.args.id _ c.get.result c.unwrap_or.result c.deref.ensures.value c.get.ensures.lookup
+    (c.unwrap_or.ensures ∙ ap (λ o. unwrap_or o blank) c.copied.ensures)

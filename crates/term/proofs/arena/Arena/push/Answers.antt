@@ -2,14 +2,9 @@ use Rattle.std.proofs.Common.{refl, arith}
 use Rattle.term.proofs.Trees.{pushed}
 use Rattle.term.proofs.arena.Arena.push.Goals as goal
 
-pub invariant_of-self : goal.invariant_of-self
-invariant_of-self c =
-    let p = pushed c.push_reserved.ensures.items c.args.self.now.pool.ok.0 c.args.self.now.sound c.requires.lower c.requires.small in
-    record { sound = p.sound; room = omega arith; held = omega arith; few = omega arith }
-
 pub returns : goal.returns
 returns c =
-    let p = pushed c.push_reserved.ensures.items c.args.self.now.pool.ok.0 c.args.self.now.sound c.requires.lower c.requires.small in
+    let p = pushed c.push_reserved.ensures.items c.args.self.now.pool.ok.0 c.args.self.now.sound c.requires.fits in
     record {
       kept = record { long = omega arith; limit = refl; trees = p.kept; chains = p.chains };
       at = c.len-id.ensures;

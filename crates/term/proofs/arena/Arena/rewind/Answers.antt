@@ -2,10 +2,6 @@ use Rattle.std.proofs.Common.{refl, arith}
 use Rattle.term.proofs.Trees.{taken}
 use Rattle.term.proofs.arena.Arena.rewind.Goals as goal
 
-pub invariant_of-self : goal.invariant_of-self
-invariant_of-self c =
-    record { sound = (taken c.args.mark c.truncate.ensures.items c.args.self.now.sound).sound; room = omega arith; held = omega arith; few = omega arith }
-
 pub returns : goal.returns
 returns c =
     let t = taken c.args.mark c.truncate.ensures.items c.args.self.now.sound in
