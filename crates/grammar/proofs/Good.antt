@@ -8,7 +8,7 @@ use Rattle.std.proofs.lemmas.Bool.Decides.{nat_tests}
 use Rattle.script.specs.declared.token.Kind.{Kind}
 use Rattle.script.specs.declared.token.Kind.TheVariants.{Name, NoToken}
 use Rattle.script.specs.declared.token.Piece.{Piece}
-use Rattle.script.specs.declared.token.Lexeme.{Lexeme}
+use Rattle.script.specs.Lexemes.{Lexeme}
 use Rattle.script.specs.Names.{bytes_at}
 use Rattle.script.specs.Tokens.{letter, word_byte, blank, begins_with, spelt, or_else, kind_or, reserved, name_kind, word_kind, word_piece, token_piece, piece, sort_words, binder_words, part_words, first_words}
 use Rattle.script.specs.Parts.{parts, parts_from, line_start, with_lexeme, lexemes, lexemes_from}

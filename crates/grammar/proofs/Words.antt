@@ -1,7 +1,7 @@
 -- The words of bytes, each name taken from the bytes themselves.
 use Rattle.std.proofs.Common.{◌≡◌, ℕ, zero, suc, pred, Bool, eqb, List, [], ◌∷◌, take, drop, Some, None, Option, sym, refl, ap, ◌∙◌, ap₂, arith}
 use Rattle.script.specs.declared.token.Kind.{Kind}
-use Rattle.script.specs.declared.token.Lexeme.{Lexeme}
+use Rattle.script.specs.Lexemes.{Lexeme}
 use Rattle.script.specs.Names.{bytes_at}
 use Rattle.script.specs.Tokens.{piece}
 use Rattle.script.specs.Parts.{parts, parts_from, line_start, with_lexeme, lexemes, lexemes_from}

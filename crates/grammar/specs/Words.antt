@@ -4,7 +4,7 @@ use Rattle.script.specs.declared.token.Mark.{Mark}
 use Rattle.script.specs.declared.token.FirstWord.{FirstWord}
 use Rattle.script.specs.declared.token.Kind.{Kind}
 use Rattle.script.specs.declared.token.Kind.TheVariants.{Name, Number, Fixed, First, NoToken}
-use Rattle.script.specs.declared.token.Lexeme.{Lexeme}
+use Rattle.script.specs.Lexemes.{Lexeme}
 use Rattle.script.specs.Names.{bytes_at}
 
 pub data Token : Type 0 where

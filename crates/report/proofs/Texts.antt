@@ -1,12 +1,11 @@
 -- One text written after another.
-use Rattle.std.proofs.Common.{◌≡◌, ℕ, ◌+◌, ◌<◌, ◌≤◌, List, [], ◌∷◌, ◌++◌, length, Some, None, codes, Result, sym, ap, ◌∙◌, subst, append_assoc, append-nil}
+use Rattle.std.proofs.Common.{◌≡◌, ℕ, ◌<◌, ◌≤◌, List, [], ◌∷◌, ◌++◌, length, codes, Result, sym, ap, ◌∙◌, subst, append_assoc, append-nil}
 use Rattle.std.proofs.lemmas.Bool.{cond-true, cond-false, lt-ltb, le-ltb}
 use Rattle.script.specs.declared.statement.Statement.{Statement}
 use Rattle.script.specs.declared.statement.ScriptFault.{ScriptFault}
 use Rattle.script.specs.Faults.{token_check}
 use Rattle.script.specs.Statements.{statements_from}
-use Rattle.script.specs.View.{StatementTaken}
-use Rattle.report.specs.Outline.{Appended, line, answer_text, place_text, answer_lines, lines, all_lines, outline}
+use Rattle.report.specs.Outline.{Appended, line, answer_text, place_text, answer_lines, all_lines, outline}
 
 pub then_more : {i a j b k : List ℕ} → Appended i a j → Appended j b k → Appended i (a ++ b) k
 then_more {i} {a} {j} {b} {k} e f = record { whole = f.whole ∙ ap (λ l. l ++ b) e.whole ∙ append_assoc i a b }
@@ -25,14 +24,7 @@ pub too_long : (s was is : List ℕ) → 1000000 < length s → was ≡ [] → A
 unfolding outline
 too_long s was is h n e = e.whole ∙ ap (λ l. l ++ line (codes "answer=") (codes "13")) n ∙ sym (cond-true _ _ _ (lt-ltb _ _ h))
 
--- one statement more
-pub told : (s s' : List ℕ) (n from to : ℕ) (st : Statement) (was is whole : List ℕ) → s' ≡ s → StatementTaken s' from to (Some st) → Appended was (lines n s st) is → was ++ all_lines n s (statements_from s from) ≡ whole → is ++ all_lines (n + 1) s (statements_from s to) ≡ whole
-told s s' n from to st was is whole e h a w =
-    ap (λ l. l ++ all_lines (n + 1) s (statements_from s to)) a.whole ∙ append_assoc was (lines n s st) _
-    ∙ ap (λ sts. was ++ all_lines n s sts) (sym (subst (λ x. statements_from x from ≡ st ∷ statements_from x to) e h.0)) ∙ w
-
-pub told_all : (s s' : List ℕ) (n from to : ℕ) (was : List ℕ) → length s ≤ 1000000 → s' ≡ s → StatementTaken s' from to None → was ++ all_lines n s (statements_from s from) ≡ all_lines 1 s (statements_from s 0) → was ≡ outline s
+-- all statements are told
+pub told_all : (s : List ℕ) (n : ℕ) (sts : List Statement) (was : List ℕ) → length s ≤ 1000000 → sts ≡ [] → was ++ all_lines n s sts ≡ all_lines 1 s (statements_from s 0) → was ≡ outline s
 unfolding outline
-told_all s s' n from to was l e h w =
-    sym (append-nil was) ∙ ap (λ sts. was ++ all_lines n s sts) (sym (subst (λ x. statements_from x from ≡ []) e h.0)) ∙ w
-    ∙ sym (cond-false _ _ _ (le-ltb _ _ l))
+told_all s n sts was l e w = sym (append-nil was) ∙ ap (λ ts. was ++ all_lines n s ts) (sym e) ∙ w ∙ sym (cond-false _ _ _ (le-ltb _ _ l))

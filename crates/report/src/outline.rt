@@ -85,11 +85,8 @@ pub fn outline_text(heap: Global, script: &[u8]) -> Result<Vec<u8>, AllocError>
         text_line(&mut out, b"answer=", b"13")?;
         return Ok(out);
     }
-    let mut reader = Reader::new(script);
-    let mut number = 1usize;
-    while let Some(st) = reader.next_statement() {
-        statement_lines(heap, &mut out, number, script, &st)?;
-        number += 1;
+    for (i, st) in Reader::new(script).statements().enumerate() {
+        statement_lines(heap, &mut out, i + 1, script, &st)?;
     }
     Ok(out)
 }

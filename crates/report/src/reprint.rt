@@ -81,10 +81,8 @@ pub fn reprint_text(heap: Global, script: &[u8]) -> Result<Vec<u8>, AllocError> 
     let mut scope = Scope::new(heap)?;
     let mut entries = Vec::new(heap);
     let mut page = vec![in heap; 0u8; TEXT_BYTES]?;
-    let mut reader = Reader::new(script);
-    let mut number = 1usize;
-    while let Some(st) = reader.next_statement() {
-        number_line(heap, &mut out, b"statement=", number)?;
+    for (i, st) in Reader::new(script).statements().enumerate() {
+        number_line(heap, &mut out, b"statement=", i + 1)?;
         statement_lines(
             heap,
             &mut out,
@@ -95,7 +93,6 @@ pub fn reprint_text(heap: Global, script: &[u8]) -> Result<Vec<u8>, AllocError> 
             &mut arena,
             st,
         )?;
-        number = number.saturating_add(1);
     }
     Ok(out)
 }

@@ -1,10 +1,12 @@
 -- The reader of statements, lexeme by lexeme.
-use Rattle.std.proofs.Common.{◌≡◌, ℕ, ◌+◌, ◌≤◌, true, false, List, [], ◌∷◌, length, Some, None, Option, sym, refl, ap, ◌∙◌, subst, ap₂, arith}
-use Rattle.script.specs.declared.token.Lexeme.{Lexeme}
+use Rattle.std.proofs.Common.{◌≡◌, ℕ, ◌+◌, ◌≤◌, true, false, List, [], ◌∷◌, length, Some, None, Option, MatchOption, sym, refl, ap, ◌∙◌, subst, ap₂, arith}
+use Rattle.std.proofs.lemmas.List.{at_drop_all}
+use Rattle.script.specs.Lexemes.{Lexeme}
 use Rattle.script.specs.declared.statement.Span.{Span}
 use Rattle.script.specs.declared.statement.StatementKind.{StatementKind}
 use Rattle.script.specs.declared.statement.Tally.{Tally}
-use Rattle.script.specs.Parts.{lexemes_from}
+use Rattle.script.specs.declared.statement.Statement.{Statement}
+use Rattle.script.specs.Parts.{parts, line_start, parts_from, lexemes, lexemes_from}
 use Rattle.script.specs.Statements.{statement_kind, first_word, runs, first_wrong, head, entered, summary, summaries, start_of, statements_from}
 use Rattle.script.specs.Walk.{none_yet, one_more, tally, until, from_next, begin_at}
 use Rattle.script.specs.View.{LexemeAhead, Sought, LexemeTaken, Counted, StatementTaken}
@@ -36,7 +38,7 @@ module _ {s : List ℕ} {from : ℕ} {t₀ : Tally} {s' : List ℕ} {at : ℕ} {
         few = omega (arith, ap (λ (v : Tally). v.tokens) w, h.few, k.forward, k.ahead.2);
       }
 
-  stops : (to : ℕ) → lexemes_from s at ≡ lexemes_from s to → until (lexemes_from s to) ≡ [] → from_next (lexemes_from s to) ≡ lexemes_from s to → to ≡ begin_at s (lexemes_from s to) → at ≤ to → Counted s from to t₀ t
+  stops : (to : ℕ) → lexemes_from s at ≡ lexemes_from s to → until (lexemes_from s to) ≡ [] → from_next (lexemes_from s to) ≡ lexemes_from s to → to ≡ begin_at s (lexemes_from s to) → at ≤ to → Counted t₀ s from to t
   stops to e u n b f =
       record {
         count = sym (ap (tally t) (ap until e ∙ u)) ∙ h.count;
@@ -45,14 +47,14 @@ module _ {s : List ℕ} {from : ℕ} {t₀ : Tally} {s' : List ℕ} {at : ℕ} {
         forward = omega (arith, h.forward);
       }
 
-  pub stops_end : (to : ℕ) → Sought s' at to None → Counted s from to t₀ t
+  pub stops_end : (to : ℕ) → Sought s' at to None → Counted t₀ s from to t
   unfolding until from_next
   stops_end to k =
       let k' : Sought s at to None = subst (λ x. Sought x at to None) h.same k in
       let e = k'.ahead.0 in
       stops to k'.same (ap until e) (ap from_next e ∙ sym e) (k'.ahead.1 ∙ sym (ap (begin_at s) e)) k.forward
 
-  pub stops_first : (to : ℕ) (l : Lexeme) → Sought s' at to (Some l) → first_word l ≡ true → Counted s from to t₀ t
+  pub stops_first : (to : ℕ) (l : Lexeme) → Sought s' at to (Some l) → first_word l ≡ true → Counted t₀ s from to t
   stops_first to l k f =
       let k' : Sought s at to (Some l) = subst (λ x. Sought x at to (Some l)) h.same k in
       let e = k'.ahead.0 in
@@ -63,7 +65,7 @@ ahead_head s at None h = ap head h.0
 ahead_head s at (Some l) h = ap head h.0
 
 -- the statement that was read
-pub stated : (s : List ℕ) (from a b c : ℕ) (l : Lexeme) (second : Option Lexeme) (name : Option Span) (t : Tally) → LexemeTaken s from a (Some l) → Sought s a b second → name ≡ entered s (statement_kind l.kind) second → Counted s b c (one_more none_yet l) t → StatementTaken s from c (Some (record { at = l.at; end = c; kind = statement_kind l.kind; name = name; tokens = t.tokens; wrong = t.wrong }))
+pub stated : (s : List ℕ) (from a b c : ℕ) (l : Lexeme) (second : Option Lexeme) (name : Option Span) (t : Tally) → LexemeTaken s from a (Some l) → Sought s a b second → name ≡ entered s (statement_kind l.kind) second → Counted (one_more none_yet l) s b c t → StatementTaken s from c (Some (record { at = l.at; end = c; kind = statement_kind l.kind; name = name; tokens = t.tokens; wrong = t.wrong }))
 unfolding statements_from
 stated s from a b c l second name t h k n w =
     let la = lexemes_from s a in
@@ -82,12 +84,22 @@ stated s from a b c l second name t h k n w =
     )
 
 -- the same, from readings of a script that has stayed
-pub stated_since : (s s₁ s₂ : List ℕ) (from a b c : ℕ) (l : Lexeme) (kind : Option StatementKind) (second : Option Lexeme) (name : Option Span) (t₀ t : Tally) → s₁ ≡ s → s₂ ≡ s₁ → LexemeTaken s from a (Some l) → kind ≡ statement_kind l.kind → Sought s₁ a b second → name ≡ entered s₂ kind second → t₀ ≡ one_more none_yet l → Counted s₂ b c t₀ t → StatementTaken s from c (Some (record { at = l.at; end = c; kind = kind; name = name; tokens = t.tokens; wrong = t.wrong }))
+pub stated_since : (s s₁ s₂ : List ℕ) (from a b c : ℕ) (l : Lexeme) (kind : Option StatementKind) (second : Option Lexeme) (name : Option Span) (t₀ t : Tally) → s₁ ≡ s → s₂ ≡ s₁ → LexemeTaken s from a (Some l) → kind ≡ statement_kind l.kind → Sought s₁ a b second → name ≡ entered s₂ kind second → t₀ ≡ one_more none_yet l → Counted t₀ s₂ b c t → StatementTaken s from c (Some (record { at = l.at; end = c; kind = kind; name = name; tokens = t.tokens; wrong = t.wrong }))
 stated_since s s₁ s₂ from a b c l kind second name t₀ t e₁ e₂ h ke k n te w =
     subst (λ x. StatementTaken s from c (Some (record { at = l.at; end = c; kind = x; name = name; tokens = t.tokens; wrong = t.wrong }))) (sym ke)
     (stated s from a b c l second name t h (subst (λ x. Sought x a b second) e₁ k)
-    (n ∙ ap₂ (λ x y. entered x y second) (e₂ ∙ e₁) ke) (subst (λ x. Counted x b c (one_more none_yet l) t) (e₂ ∙ e₁) (subst (λ x. Counted s₂ b c x t) te w)))
+    (n ∙ ap₂ (λ x y. entered x y second) (e₂ ∙ e₁) ke) (subst (λ x. Counted (one_more none_yet l) x b c t) (e₂ ∙ e₁) (subst (λ x. Counted x s₂ b c t) te w)))
 
 pub none_stated : (s : List ℕ) (from to : ℕ) → LexemeTaken s from to None → StatementTaken s from to None
 unfolding statements_from
 none_stated s from to h = (ap (λ ls. summaries s (runs ls)) h.0, h.1)
+
+-- at the script's end no statement is left
+none_left : (s : List ℕ) (at : ℕ) → at ≡ length s → statements_from s at ≡ []
+unfolding statements_from lexemes_from parts_from
+none_left s at e = at_drop_all (λ bs. summaries s (runs (lexemes (parts 0 (line_start s at) bs at)))) s at (omega arith)
+
+-- a statement that is passed is the first of those that were left
+pub first_left : (s s' : List ℕ) (from to : ℕ) (r : Option Statement) → s' ≡ s → StatementTaken s from to r → MatchOption r ((statements_from s from ≡ []) × (statements_from s' to ≡ [])) (λ st. statements_from s from ≡ st ∷ statements_from s' to)
+first_left s s' from to None e h = (h.0, ap (λ t. statements_from t to) e ∙ none_left s to h.1)
+first_left s s' from to (Some st) e h = h.0 ∙ ap (λ t. st ∷ statements_from t to) (sym e)

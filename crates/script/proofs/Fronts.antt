@@ -1,9 +1,24 @@
--- Bytes that begin with others.
-use Rattle.std.proofs.Common.{◌≡◌, ℕ, ◌&&◌, eqb, List, [], ◌∷◌, length, take, refl, ap}
+-- A table's symbols, tried one by one at the front of bytes.
+use Rattle.std.proofs.Common.{◌≡◌, ℕ, ◌+◌, ◌<◌, Bool, true, false, ◌&&◌, eqb, List, [], ◌∷◌, length, get_or, take, drop, Some, sym, refl, ap, ◌∙◌}
+use denote.Ref.{Bor}
 use Rattle.std.specs.Str.{bytes_eq}
-use Rattle.script.specs.Tokens.{begins_with}
+use Rattle.std.proofs.lemmas.List.{at_drop_more}
+use Rattle.std.proofs.lemmas.Bool.{cond-true, cond-false}
+use Rattle.script.specs.declared.token.Kind.{Kind}
+use Rattle.script.specs.Tokens.{begins_with, token, symbol}
+use Rattle.script.specs.Spellings.{rows}
 
-pub same_front : (w bs : List ℕ) → bytes_eq w (take (length w) bs) ≡ begins_with w bs
+same_front : (w bs : List ℕ) → bytes_eq w (take (length w) bs) ≡ begins_with w bs
 same_front [] bs = refl
 same_front (x ∷ w) [] = refl
 same_front (x ∷ w) (b ∷ bs) = ap (λ t. eqb x b && t) (same_front w bs)
+
+module _ (table : List (Bor (List ℕ) × Kind)) (i : ℕ) (d : Bor (List ℕ) × Kind) (bs : List ℕ) where
+  abbrev Starts : Bool → Type 0
+  Starts t = t ≡ bytes_eq (get_or table i d).0.now (take (length (get_or table i d).0.now) bs)
+
+  pub symbol_here : i < length table → Starts true → symbol (rows (drop i table)) bs ≡ Some (token (get_or table i d).1 (length (get_or table i d).0.now))
+  symbol_here h e = at_drop_more (λ t. symbol (rows t) bs) table i d h ∙ cond-true _ _ _ (sym (e ∙ same_front _ bs))
+
+  pub symbol_later : i < length table → Starts false → symbol (rows (drop i table)) bs ≡ symbol (rows (drop (i + 1) table)) bs
+  symbol_later h e = at_drop_more (λ t. symbol (rows t) bs) table i d h ∙ cond-false _ _ _ (sym (e ∙ same_front _ bs))

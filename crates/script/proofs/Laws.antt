@@ -3,8 +3,7 @@ use Rattle.std.proofs.Common.{◌≡◌, ℕ, zero, suc, pred, ◌+◌, ◌-◌,
 use Rattle.std.specs.List.{flat_map, AllByRecursion}
 use Rattle.std.proofs.lemmas.List.{places, same_lists, take_all}
 use Rattle.std.proofs.lemmas.Bool.{cond_both}
-use Rattle.script.specs.declared.token.Part.{Part}
-use Rattle.script.specs.declared.token.Lexeme.{Lexeme}
+use Rattle.script.specs.Lexemes.{Part, Lexeme}
 use Rattle.script.specs.Tokens.{piece}
 use Rattle.script.specs.Parts.{parts, line_start, parts_from}
 use Rattle.script.specs.Statements.{Run, all_of, first_word, ends_here, onto, runs}

@@ -5,5 +5,6 @@ pub mod Steps
 pub mod Views
 pub mod Runs
 pub mod Counts
+pub mod Few
 pub mod Laws
 pub mod Nearest

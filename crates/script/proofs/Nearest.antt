@@ -1,25 +1,28 @@
--- The nearest record, searched from the last.
-use Rattle.std.proofs.Common.{◌≡◌, ℕ, ◌+◌, ◌-◌, ◌^◌, ◌<◌, ◌≤◌, min, Bool, true, false, cond, List, [], ◌∷◌, ◌++◌, length, get_or, take, drop, Some, None, Option, sym, ap, ◌∙◌, arith, rules}
-use Rattle.std.proofs.lemmas.List.{take_more, length-take-le, places, same_lists}
+-- The nearest record of a name, and the bytes of a name.
+use Rattle.std.proofs.Common.{◌≡◌, ℕ, ◌+◌, ◌-◌, ◌^◌, ◌<◌, min, Bool, true, false, List, [], ◌∷◌, length, get_or, take, drop, Some, None, Option, MatchOption, zero, suc, sym, refl, ap, ◌∙◌, arith, rules}
+use Rattle.std.proofs.lemmas.List.{places, same_lists}
 use Rattle.std.proofs.lemmas.Bool.{cond-true, cond-false}
-use Rattle.script.specs.Names.{nearest, last_from, bytes_at, StepsBack}
+use Rattle.script.specs.Names.{nearest, last_from, bytes_at}
 
-from_push : {X : Type 0} (p : X → Bool) (i : ℕ) (best : Option ℕ) (xs : List X) (x : X) → last_from p i best (xs ++ x ∷ []) ≡ cond (p x) (Some (i + length xs)) (last_from p i best xs)
-from_push p i best [] x = ap (λ k. cond (p x) (Some k) best) (omega arith)
-from_push p i best (y ∷ xs) x =
-    from_push p (i + 1) (cond (p y) (Some i) best) xs x ∙ ap (λ k. cond (p x) (Some k) (last_from p (i + 1) (cond (p y) (Some i) best) xs)) (omega arith)
+-- where none passes, the best so far stays
+none_passes : {X : Type 0} (p : X → Bool) (n : ℕ) (best : Option ℕ) (xs : List X) → ((k : ℕ) (d : X) → k < length xs → p (get_or xs k d) ≡ false) → last_from p n best xs ≡ best
+none_passes p n best [] fails = refl
+none_passes p n best (x ∷ xs) fails =
+    ap (λ b. last_from p (n + 1) b xs) (cond-false (p x) _ _ (fails 0 x (omega arith)))
+    ∙ none_passes p (n + 1) best xs (λ k d h. fails (suc k) d (omega arith))
 
--- one record more
-step : {X : Type 0} (p : X → Bool) (xs : List X) (i : ℕ) (x : X) → i < length xs → x ≡ get_or xs i x → nearest p (take (i + 1) xs) ≡ cond (p x) (Some i) (nearest p (take i xs))
-step p xs i x h is =
-    ap (nearest p) (take_more xs i x h) ∙ ap (λ y. nearest p (take i xs ++ y ∷ [])) (sym is) ∙ from_push p 0 None (take i xs) x
-    ∙ ap (λ k. cond (p x) (Some k) (nearest p (take i xs))) (omega (arith, length-take-le i xs (omega arith)))
+last_passes : {X : Type 0} (p : X → Bool) (n i : ℕ) (best : Option ℕ) (xs : List X) → i < length xs → ((d : X) → p (get_or xs i d) ≡ true) → ((k : ℕ) (d : X) → i < k → k < length xs → p (get_or xs k d) ≡ false) → last_from p n best xs ≡ Some (n + i)
+last_passes p n i best [] h passes fails = absurd (omega arith)
+last_passes p n zero best (x ∷ xs) h passes fails =
+    ap (λ b. last_from p (n + 1) b xs) (cond-true (p x) _ _ (passes x))
+    ∙ none_passes p (n + 1) (Some n) xs (λ k d l. fails (suc k) d (omega arith) (omega arith)) ∙ ap Some (omega arith)
+last_passes p n (suc i) best (x ∷ xs) h passes fails =
+    last_passes p (n + 1) i _ xs (omega arith) passes (λ k d l m. fails (suc k) d (omega arith) (omega arith)) ∙ ap Some (omega arith)
 
-pub steps_back : {X : Type 0} (t : Bool) (p : X → Bool) (n : ℕ) (xs : List X) (x : X) → 0 < n → n ≤ length xs → x ≡ get_or xs (n - 1) x → t ≡ p x → StepsBack t p n xs
-steps_back true p n xs x h l is e =
-    ap (λ k. nearest p (take k xs)) (omega arith) ∙ step p xs (n - 1) x (omega arith) is ∙ cond-true (p x) _ _ (sym e)
-steps_back false p n xs x h l is e =
-    ap (λ k. nearest p (take k xs)) (omega arith) ∙ step p xs (n - 1) x (omega arith) is ∙ cond-false (p x) _ _ (sym e)
+-- the last that passes is the nearest
+pub last_is_nearest : {X : Type 0} (p : X → Bool) (xs : List X) (r : Option ℕ) → MatchOption r ((k : ℕ) (d : X) → k < length xs → p (get_or xs k d) ≡ false) (λ i. (i < length xs) × ((d : X) → p (get_or xs i d) ≡ true) × ((k : ℕ) (d : X) → i < k → k < length xs → p (get_or xs k d) ≡ false)) → r ≡ nearest p xs
+last_is_nearest p xs None h = sym (none_passes p 0 None xs h)
+last_is_nearest p xs (Some i) h = sym (last_passes p 0 i None xs h.0 h.1 h.2 ∙ ap Some (omega arith))
 
 -- a part that is cut off at the end
 pub clip : (s : List ℕ) (at n from to : ℕ) → from ≡ min at (length s) → to ≡ min (min (from + n) (2 ^ 64 - 1)) (length s) → length s < 2 ^ 64 → take (to - from) (drop from s) ≡ bytes_at s at n

@@ -1,29 +1,14 @@
 -- The value of digits, counted one by one, is the number that they write.
-use Rattle.std.proofs.Common.{◌≡◌, ℕ, ◌+◌, ◌-◌, ◌*◌, ◌<◌, ◌≤◌, Bool, true, false, cond, not, ◌&&◌, eqb, leb, List, [], ◌∷◌, length, get_or, drop, Some, None, Option, sym, refl, ap, ◌∙◌, arith}
+use Rattle.std.proofs.Common.{◌≡◌, ℕ, ◌+◌, ◌-◌, ◌*◌, ◌≤◌, Bool, true, false, cond, not, ◌&&◌, eqb, leb, List, [], ◌∷◌, Some, None, Option, sym, refl, ap, ◌∙◌, arith}
 use Rattle.std.specs.Char.{is_ascii_digit, digit_value}
 use Rattle.std.specs.Str.Parse.{digits_value, digits_value_after}
 use Rattle.std.specs.List.{AllByRecursion}
-use Rattle.std.proofs.lemmas.List.{at_drop_more, at_drop_all}
-use Rattle.std.proofs.lemmas.Bool.{cond-true, cond-false, and_from, and_left, and_right, le-leb, lt-leb, leb-true, leb-false}
+use Rattle.std.proofs.lemmas.Bool.{cond-true, cond-false, le-leb, lt-leb, leb-true, leb-false}
 use Rattle.std.proofs.lemmas.Bool.Decides.{nat_tests}
 use Rattle.script.specs.declared.token.Kind.{Kind}
 use Rattle.script.specs.declared.token.Kind.TheVariants.{Number, NoToken}
 use Rattle.script.specs.Tokens.{number_kind}
 use Rattle.script.specs.Scan.{value_to, number_in, judged_number}
-
--- the steps of the loop that reads digits
-module _ (n : ℕ) (w : List ℕ) (i : ℕ) where
-  pub value_end : length w ≤ i → value_to n (drop i w) ≡ Some n
-  value_end h = at_drop_all (value_to n) w i h
-
-  pub value_yes : i < length w → is_ascii_digit (get_or w i 0) ≡ true → n * 10 + (get_or w i 0 - 48) ≤ 65535 → value_to n (drop i w) ≡ value_to (n * 10 + (get_or w i 0 - 48)) (drop (i + 1) w)
-  value_yes h d k = at_drop_more (value_to n) w i 0 h ∙ cond-true _ _ _ (and_from _ _ d (le-leb _ _ k))
-
-  pub value_no : i < length w → is_ascii_digit (get_or w i 0) ≡ false → value_to n (drop i w) ≡ None
-  value_no h d = at_drop_more (value_to n) w i 0 h ∙ cond-false _ _ _ (and_left _ _ d)
-
-  pub value_past : i < length w → 65535 < n * 10 + (get_or w i 0 - 48) → value_to n (drop i w) ≡ None
-  value_past h k = at_drop_more (value_to n) w i 0 h ∙ cond-false _ _ _ (and_right _ _ (lt-leb _ _ k))
 
 grows : (n : ℕ) (w : List ℕ) → n ≤ digits_value_after 10 n w
 grows n [] = omega arith

@@ -2,11 +2,11 @@
 use Rattle.std.proofs.Common.{◌≡◌, ℕ, ◌+◌, ◌≤◌, Bool, List, length, drop, Some, None, Option, sym, refl, ap, ◌∙◌, subst, ap₂, arith, length-drop}
 use Rattle.script.specs.declared.token.Kind.{Kind}
 use Rattle.script.specs.declared.token.Piece.{Piece}
-use Rattle.script.specs.declared.token.Part.{Part}
-use Rattle.script.specs.declared.token.Lexeme.{Lexeme}
+use Rattle.script.specs.declared.reader.Reader.{Reader}
+use Rattle.script.specs.Lexemes.{Part, Lexeme}
 use Rattle.script.specs.Tokens.{next_piece}
 use Rattle.script.specs.Parts.{placed, line_start, parts_from, lexemes_from, lexemes, with_lexeme}
-use Rattle.script.specs.View.{PartAhead, LexemeAhead, Sought}
+use Rattle.script.specs.View.{script, Moves, PartAhead, LexemeAhead, Sought}
 use Rattle.script.proofs.Steps.{step_from, end_from}
 
 pub peeked : (s : List ℕ) (at : ℕ) (f : Bool) (bs : List ℕ) (p : Piece) → f ≡ line_start s at → bs ≡ drop at s → Some p ≡ next_piece f bs → at ≤ length s → PartAhead s at (Some (placed at p))
@@ -31,5 +31,20 @@ pub end_ahead : (s : List ℕ) (at : ℕ) → PartAhead s at None → LexemeAhea
 unfolding lexemes_from
 end_ahead s at h = (ap lexemes h.0, h.1)
 
-pub found_at : (s s' : List ℕ) (from to : ℕ) (r : Option Lexeme) → s' ≡ s → lexemes_from s from ≡ lexemes_from s' to → from ≤ to → LexemeAhead s' to r → Sought s from to r
-found_at s s' from to r e l h a = record { same = l ∙ ap (λ t. lexemes_from t to) e; forward = h; ahead = subst (λ t. LexemeAhead t to r) e a }
+-- how far a reader has come that passes blanks and comments
+pub record Seeking (old new : Reader) : Type 0 where
+  pub same : lexemes_from (script old) old.at ≡ lexemes_from (script new) new.at
+  pub forward : old.at ≤ new.at
+  pub script : script new ≡ script old
+
+pub found_at : {old new : Reader} {r : Option Lexeme} → Seeking old new → LexemeAhead (script new) new.at r → Moves Sought old new r
+found_at {old} {new} {r} h a =
+    record {
+      taken =
+          record {
+            same = h.same ∙ ap (λ s. lexemes_from s new.at) h.script;
+            forward = h.forward;
+            ahead = subst (λ s. LexemeAhead s new.at r) h.script a;
+          };
+      script = h.script;
+    }

@@ -1,8 +1,7 @@
 -- What holds of every script.
 use Rattle.std.specs.Prelude.{◌≡◌, ℕ, ◌+◌, ◌<◌, true, false, List, [], ◌∷◌, length, take, drop}
 use Rattle.std.specs.List.{flat_map, AllByRecursion}
-use Rattle.script.specs.declared.token.Part.{Part}
-use Rattle.script.specs.declared.token.Lexeme.{Lexeme}
+use Rattle.script.specs.Lexemes.{Part, Lexeme}
 use Rattle.script.specs.Parts.{parts_from}
 use Rattle.script.specs.Statements.{Run, all_of, first_word, runs}
 

@@ -1,10 +1,13 @@
 pub mod Marks
+pub mod Lexemes
 pub mod Tokens
+pub mod Spellings
 pub mod Parts
 pub mod Scan
 pub mod Statements
 pub mod Walk
 pub mod View
+pub mod Left
 pub mod Laws
 pub mod Names
 pub mod Faults

@@ -1,5 +1,5 @@
 -- The nearest record of a name. Records stand in the order in which they came.
-use Rattle.std.specs.Prelude.{◌≡◌, ℕ, ◌+◌, ◌-◌, Bool, true, false, cond, List, [], ◌∷◌, take, drop, Some, None, Option}
+use Rattle.std.specs.Prelude.{ℕ, ◌+◌, Bool, cond, List, [], ◌∷◌, take, drop, Some, None, Option}
 use Rattle.std.specs.Str.{bytes_eq}
 
 abbrev pub bytes_at : List ℕ → ℕ → ℕ → List ℕ
@@ -16,8 +16,3 @@ last_from p i best (x ∷ xs) = last_from p (i + 1) (cond (p x) (Some i) best) x
 
 abbrev pub nearest : {X : Type 0} → (X → Bool) → List X → Option ℕ
 nearest p xs = last_from p 0 None xs
-
--- the last of the first n is the nearest of them, or the nearest lies before it
-abbrev pub StepsBack : {X : Type 0} → Bool → (X → Bool) → ℕ → List X → Type 0
-StepsBack true p n xs = nearest p (take n xs) ≡ Some (n - 1)
-StepsBack false p n xs = nearest p (take n xs) ≡ nearest p (take (n - 1) xs)

@@ -2,8 +2,7 @@
 use Rattle.std.specs.Prelude.{ℕ, zero, suc, pred, ◌-◌, Bool, ◌||◌, List, [], ◌∷◌, drop, Some, None, Option, ◌==◌, slice_index}
 use Rattle.script.specs.declared.token.Kind.{Kind}
 use Rattle.script.specs.declared.token.Piece.{Piece}
-use Rattle.script.specs.declared.token.Part.{Part}
-use Rattle.script.specs.declared.token.Lexeme.{Lexeme}
+use Rattle.script.specs.Lexemes.{Part, Lexeme}
 use Rattle.script.specs.Tokens.{piece}
 
 abbrev pub placed : ℕ → Piece → Part

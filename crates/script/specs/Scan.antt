@@ -1,17 +1,10 @@
 -- What the scanner's inner functions answer, in the terms of the tokens.
-use Rattle.std.specs.Prelude.{ℕ, ◌+◌, ◌-◌, ◌*◌, Bool, cond, ◌&&◌, List, [], ◌∷◌, Some, None, Option, ◌==◌, nat_le}
+use Rattle.std.specs.Prelude.{ℕ, ◌+◌, ◌-◌, ◌*◌, cond, ◌&&◌, List, [], ◌∷◌, Some, None, Option, ◌==◌, nat_le}
 use Rattle.std.specs.Char.{is_ascii_digit}
-use Rattle.script.specs.declared.lex.Run.{Run}
-use Rattle.script.specs.declared.lex.Run.TheVariants.{Word, Digits, Line}
 use Rattle.script.specs.declared.token.Kind.{Kind}
 use Rattle.script.specs.declared.token.Kind.TheVariants.{Number, NoToken}
 use Rattle.script.specs.declared.token.Piece.{Piece}
-use Rattle.script.specs.Tokens.{word_byte, in_line, token, token_piece}
-
-abbrev pub in_run : Run → ℕ → Bool
-in_run Word b = word_byte b
-in_run Digits b = is_ascii_digit b
-in_run Line b = in_line b
+use Rattle.script.specs.Tokens.{token, token_piece}
 
 -- the value of digits after those of value n, or none past 65,535
 abbrev pub value_to : ℕ → List ℕ → Option ℕ

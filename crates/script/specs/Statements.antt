@@ -5,7 +5,7 @@ use Rattle.script.specs.declared.token.FirstWord.{FirstWord}
 use Rattle.script.specs.declared.token.FirstWord.TheVariants.{DefWord, TheoremWord, LemmaWord, AxiomWord, ConstantWord, CheckWord, EvalWord}
 use Rattle.script.specs.declared.token.Kind.{Kind}
 use Rattle.script.specs.declared.token.Kind.TheVariants.{Name, Number, Fixed, First, NoToken}
-use Rattle.script.specs.declared.token.Lexeme.{Lexeme}
+use Rattle.script.specs.Lexemes.{Lexeme}
 use Rattle.script.specs.declared.statement.StatementKind.{StatementKind}
 use Rattle.script.specs.declared.statement.StatementKind.TheVariants.{Def, Axiom, Check, Eval}
 use Rattle.script.specs.declared.statement.Span.{Span}

@@ -4,7 +4,6 @@ use Rattle.std.specs.Char.{is_ascii_digit, is_ascii_alphabetic}
 use Rattle.std.specs.Str.Parse.{digits_value}
 use Rattle.std.specs.List.{prefix_len}
 use Rattle.std.specs.Str.{bytes_eq}
-use Rattle.script.specs.declared.token.Mark.{Mark}
 use Rattle.script.specs.declared.token.Mark.TheVariants.{TypeWord, PropWord, KindWord, SortWord, FunWord, PiWord, ForallWord, SigmaWord, ExistsWord, LetWord, InWord, FstWord, SndWord, InlWord, InrWord, MatchWord, WithWord, EndWord, Arrow, Maps, Becomes, Colon, Opens, Closes, OpensBrace, ClosesBrace, Comma, Plus, Times, Bar}
 use Rattle.script.specs.declared.token.FirstWord.TheVariants.{DefWord, TheoremWord, LemmaWord, AxiomWord, ConstantWord, CheckWord, EvalWord}
 use Rattle.script.specs.declared.token.Kind.{Kind}
@@ -107,9 +106,6 @@ word_piece bs = token (word_kind (take (prefix_len word_byte bs) bs)) (prefix_le
 
 abbrev pub number_piece : List ℕ → Piece
 number_piece bs = token (number_kind (take (prefix_len is_ascii_digit bs) bs)) (prefix_len is_ascii_digit bs)
-
-abbrev pub a_mark : Mark → ℕ → Option Piece
-a_mark m n = Some (token (Fixed m) n)
 
 -- the first symbol of the table that the bytes begin with
 abbrev pub symbol : List (List ℕ × Kind) → List ℕ → Option Piece

@@ -1,7 +1,6 @@
 -- What a reader has before it, and how it moves.
 use Rattle.std.specs.Prelude.{◌≡◌, ℕ, ◌+◌, ◌<◌, ◌≤◌, List, [], ◌∷◌, length, Some, None, Option}
-use Rattle.script.specs.declared.token.Part.{Part}
-use Rattle.script.specs.declared.token.Lexeme.{Lexeme}
+use Rattle.script.specs.Lexemes.{Part, Lexeme}
 use Rattle.script.specs.declared.statement.Statement.{Statement}
 use Rattle.script.specs.declared.statement.Tally.{Tally}
 use Rattle.script.specs.declared.reader.Reader.{Reader}
@@ -11,6 +10,11 @@ use Rattle.script.specs.Walk.{tally, until, from_next, begin_at}
 
 abbrev pub script : Reader → List ℕ
 script r = r.script.now
+
+-- a reader went on over its script, which stays, and gave r
+pub record Moves {R : Type 0} (how : List ℕ → ℕ → ℕ → R → Type 0) (old new : Reader) (r : R) : Type 0 where
+  pub taken : how (script old) old.at new.at r
+  pub script : script new ≡ script old
 
 -- this part comes next at a place, or the script ends there
 abbrev pub PartAhead : List ℕ → ℕ → Option Part → Type 0
@@ -42,7 +46,7 @@ LexemeTaken s from to (Some l) =
     (lexemes_from s from ≡ l ∷ lexemes_from s to) × (to ≡ l.at + l.len) × (from ≤ l.at) × (0 < l.len)
 
 -- the rest of a statement's lexemes is passed and counted
-pub record Counted (s : List ℕ) (from to : ℕ) (t r : Tally) : Type 0 where
+pub record Counted (t : Tally) (s : List ℕ) (from to : ℕ) (r : Tally) : Type 0 where
   pub count : r ≡ tally t (until (lexemes_from s from))
   pub left : lexemes_from s to ≡ from_next (lexemes_from s from)
   pub place : to ≡ begin_at s (lexemes_from s to)

@@ -1,6 +1,6 @@
 -- What the reader of a statement's lexemes counts, lexeme by lexeme.
 use Rattle.std.specs.Prelude.{ℕ, ◌+◌, cond, List, [], ◌∷◌, length, None}
-use Rattle.script.specs.declared.token.Lexeme.{Lexeme}
+use Rattle.script.specs.Lexemes.{Lexeme}
 use Rattle.script.specs.declared.statement.Tally.{Tally}
 use Rattle.script.specs.Tokens.{or_else}
 use Rattle.script.specs.Statements.{first_word, wrong_at}

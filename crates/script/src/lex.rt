@@ -1,19 +1,11 @@
 //! What some bytes begin with: a comment, a blank or a lexeme.
 ghost use Rattle.std.specs.Prelude.{◌≡◌, ℕ, ◌+◌, ◌-◌, ◌*◌, ◌<◌, ◌≤◌, ◌&&◌, length, codes};
 ghost use Rattle.std.specs.List.{prefix_len};
-ghost use Rattle.script.specs.Tokens.{letter, word_byte, blank, name_kind, word_kind, begins_with, next_piece};
-ghost use Rattle.script.specs.Scan.{in_run, value_to, judged_number, token_of};
+ghost use Rattle.script.specs.Tokens.{letter, word_byte, in_line, blank, name_kind, word_kind, word_piece, number_piece, gap, begins_with, next_piece};
+ghost use Rattle.script.specs.Scan.{value_to, judged_number, token_of};
 
 use crate::spell;
 use crate::token::{Kind, Piece};
-
-// What a run of bytes is made of.
-#[derive(Clone, Copy)]
-pub enum Run {
-    Word,
-    Digits,
-    Line,
-}
 
 /// Whether a byte is a letter or `_`.
 pub fn is_letter(b: u8) -> bool
@@ -32,38 +24,13 @@ fn is_word_byte(b: u8) -> bool
 fn is_blank(b: u8) -> bool
     ensures { result ≡ blank b }
 {
-    b == b' ' || b == b'\t' || b == b'\r' || b == b'\n'
-}
-
-impl Run {
-    fn takes(self, b: u8) -> bool
-        ensures { result ≡ in_run self b }
-    {
-        match self {
-            Run::Word => is_word_byte(b),
-            Run::Digits => b.is_ascii_digit(),
-            Run::Line => b != b'\n',
-        }
-    }
-
-    // How many bytes at the front the run takes.
-    fn len(self, rest: &[u8]) -> usize
-        ensures value { result ≡ prefix_len (in_run self) rest.now }
-        ensures bound { result ≤ length rest.now }
-    {
-        for (i, b) in rest.iter().enumerate() {
-            if !self.takes(*b) {
-                return i;
-            }
-        }
-        rest.len()
-    }
+    matches!(b, b' ' | b'\t' | b'\r' | b'\n')
 }
 
 fn name(w: &[u8]) -> Kind
     ensures { result ≡ name_kind w.now }
 {
-    if w.len() <= 64 && !spell::same(b"_", w) {
+    if w.len() <= 64 && w != b"_".as_slice() {
         Kind::Name
     } else {
         Kind::NoToken
@@ -73,63 +40,78 @@ fn name(w: &[u8]) -> Kind
 fn word(w: &[u8]) -> Kind
     ensures { result ≡ word_kind w.now }
 {
-    match spell::reserved_word(w) {
-        Some(kind) => kind,
-        None => name(w),
-    }
+    spell::reserved_word(w).unwrap_or_else(|| name(w))
 }
 
 // The value that digits write, or none past 65,535.
 fn value(w: &[u8]) -> Option<u16>
     ensures { result ≡ value_to 0 w.now }
 {
-    let mut n = 0u32;
+    let mut n = 0u16;
     for b in w {
         if !b.is_ascii_digit() {
             return None;
         }
-        n = n * 10 + (*b - b'0') as u32;
-        if n > 65535 {
-            return None;
-        }
+        n = n.checked_mul(10)?.checked_add(u16::from(*b - b'0'))?;
     }
-    Some(n as u16)
+    Some(n)
 }
 
 // Digits, judged.
 fn number(w: &[u8]) -> Kind
     ensures { result ≡ judged_number w.now }
 {
-    if w.is_empty() || (w.len() > 1 && w[0] == b'0') {
-        return Kind::NoToken;
+    match w {
+        [] | [b'0', _, ..] => Kind::NoToken,
+        _ => value(w).map_or(Kind::NoToken, Kind::Number),
     }
-    match value(w) {
-        Some(n) => Kind::Number(n),
-        None => Kind::NoToken,
+}
+
+// A word: every byte that could go on with it.
+fn word_piece(rest: &[u8]) -> Piece
+    ensures { result ≡ word_piece rest.now }
+{
+    let len = rest.iter().take_while(|b| is_word_byte(**b)).count();
+    Piece {
+        kind: Some(word(&rest[..len])),
+        len,
+    }
+}
+
+// A number: every digit.
+fn number_piece(rest: &[u8]) -> Piece
+    ensures { result ≡ number_piece rest.now }
+{
+    let len = rest.iter().take_while(|b| b.is_ascii_digit()).count();
+    Piece {
+        kind: Some(number(&rest[..len])),
+        len,
+    }
+}
+
+// A comment: the rest of the line.
+fn comment(rest: &[u8]) -> Piece
+    ensures { result ≡ gap (prefix_len in_line rest.now) }
+{
+    Piece {
+        kind: None,
+        len: rest.iter().take_while(|b| **b != b'\n').count(),
     }
 }
 
 // The lexeme that the bytes begin with.
+#[tactic(auto, using(crate::proofs::Pieces::token_is))]
 fn lexeme(rest: &[u8]) -> Piece
     requires { 0 < length rest.now }
     ensures { result ≡ token_of rest.now }
 {
-    let b = rest[0];
-    if is_letter(b) {
-        let len = Run::Word.len(rest);
-        return Piece {
-            kind: Some(word(&rest[..len])),
-            len,
-        };
+    if is_letter(rest[0]) {
+        word_piece(rest)
+    } else if rest[0].is_ascii_digit() {
+        number_piece(rest)
+    } else {
+        spell::symbol_or_byte(rest)
     }
-    if b.is_ascii_digit() {
-        let len = Run::Digits.len(rest);
-        return Piece {
-            kind: Some(number(&rest[..len])),
-            len,
-        };
-    }
-    spell::symbol_or_byte(rest)
 }
 
 // Whether the bytes begin a comment: two dashes at a line's start.
@@ -146,17 +128,14 @@ fn is_comment(fresh: bool, rest: &[u8]) -> bool
 pub fn first_piece(fresh: bool, rest: &[u8]) -> Option<Piece>
     ensures { result ≡ next_piece fresh rest.now }
 {
-    if rest.is_empty() {
+    let [first, ..] = rest else {
         return None;
-    }
+    };
     if is_comment(fresh, rest) {
-        return Some(Piece {
-            kind: None,
-            len: Run::Line.len(rest),
-        });
+        Some(comment(rest))
+    } else if is_blank(*first) {
+        Some(Piece { kind: None, len: 1 })
+    } else {
+        Some(lexeme(rest))
     }
-    if is_blank(rest[0]) {
-        return Some(Piece { kind: None, len: 1 });
-    }
-    Some(lexeme(rest))
 }

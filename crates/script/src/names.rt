@@ -1,25 +1,20 @@
 //! The search by name, for any record that tells where its name stands in the script.
-ghost use Rattle.std.specs.Prelude.{◌≡◌, ℕ, ◌<◌, ◌≤◌, length};
-ghost use Rattle.std.specs.Str.{bytes_eq};
-ghost use Rattle.script.specs.Names.{bytes_at, named, nearest, StepsBack};
+ghost use Rattle.std.specs.Prelude.{◌≡◌};
+ghost use Rattle.script.specs.declared.statement.Span.{Span};
+ghost use Rattle.script.specs.Names.{bytes_at, named, nearest};
 
-use crate::spell;
 use crate::statement::Span;
 
 /// A record with a name: the bytes of the script at a place.
 pub trait Named {
-    ghost place: { Self → ℕ };
-
-    ghost size: { Self → ℕ };
+    ghost span: { Self → Span };
 
     fn name(&self) -> Span
-        ensures { (result.at ≡ place self.now) × (result.len ≡ size self.now) };
+        ensures { result ≡ span self.now };
 }
 
 impl Named for Span {
-    ghost place = { λ x. x.at };
-
-    ghost size = { λ x. x.len };
+    ghost span = { λ x. x };
 
     fn name(&self) -> Span {
         *self
@@ -37,38 +32,18 @@ impl Span {
     }
 }
 
-/// Whether two names are the same, byte for byte.
-pub fn same_name(a: &[u8], b: &[u8]) -> bool
-    ensures { result ≡ bytes_eq a.now b.now }
-{
-    spell::same(b, a)
-}
-
+// Whether a record has this name, byte for byte.
 fn has_name<R: Named>(script: &[u8], x: &R, name: &[u8]) -> bool
-    ensures { result ≡ named script.now name.now (R.place x.now) (R.size x.now) }
+    ensures { result ≡ named script.now name.now (R.span x.now).at (R.span x.now).len }
 {
-    same_name(x.name().bytes(script), name)
-}
-
-// Whether the last of the first `n` records has this name. If not, what is nearest lies before it.
-fn last_has_name<R: Named>(script: &[u8], records: &[R], n: usize, name: &[u8]) -> bool
-    requires some { 0 < n }
-    requires few { n ≤ length records.now }
-    ensures { StepsBack result (λ x. named script.now name.now (R.place x) (R.size x)) n records.now }
-{
-    has_name(script, &records[n - 1], name)
+    x.name().bytes(script) == name
 }
 
 /// The nearest of the records with this name, which is the last of them.
 pub fn find<R: Named>(script: &[u8], records: &[R], name: &[u8]) -> Option<usize>
-    ensures { result ≡ nearest (λ x. named script.now name.now (R.place x) (R.size x)) records.now }
+    ensures { result ≡ nearest (λ x. named script.now name.now (R.span x).at (R.span x).len) records.now }
 {
-    let mut n = records.len();
-    while n > 0 {
-        if last_has_name(script, records, n, name) {
-            return Some(n - 1);
-        }
-        n -= 1;
-    }
-    None
+    records
+        .iter()
+        .rposition(|record| has_name(script, record, name))
 }

@@ -1,14 +1,14 @@
 //! What is known of a statement from its lexemes alone.
 ghost use Rattle.std.specs.Prelude.{◌≡◌, ◌+◌, ◌^◌, ◌<◌, slice_index};
 ghost use Rattle.std.specs.Char.{is_ascii_alphabetic};
-ghost use Rattle.script.specs.Statements.{statement_kind, kind_of_word, first_word, entered};
+ghost use Rattle.script.specs.Statements.{statement_kind, kind_of_word, first_word, span, entered};
 ghost use Rattle.script.specs.Faults.{fault_number, fault_place, token_check};
 ghost use Rattle.script.specs.Walk.{one_more, none_yet};
 
 use crate::token::{FirstWord, Kind, Lexeme};
 
 /// What a statement does. `theorem` and `lemma` spell `def`, `constant` spells `axiom`.
-#[derive(Clone, Copy)]
+#[derive(Clone, Copy, PartialEq, Eq, Debug)]
 pub enum StatementKind {
     Def,
     Axiom,
@@ -17,7 +17,7 @@ pub enum StatementKind {
 }
 
 /// Bytes of the script.
-#[derive(Clone, Copy)]
+#[derive(Clone, Copy, PartialEq, Eq, Debug)]
 pub struct Span {
     pub at: usize,
     pub len: usize,
@@ -26,7 +26,7 @@ pub struct Span {
 /// A statement's first byte, the byte past its end, its kind if its first lexeme is one of the
 /// seven words, the name that a def or an axiom would enter, how many lexemes it has, and the
 /// place of the first that is no token.
-#[derive(Clone, Copy)]
+#[derive(Clone, Copy, PartialEq, Eq, Debug)]
 pub struct Statement {
     pub at: usize,
     pub end: usize,
@@ -37,14 +37,14 @@ pub struct Statement {
 }
 
 /// Why a statement is refused before it is read, with the place.
-#[derive(Clone, Copy)]
+#[derive(Clone, Copy, PartialEq, Eq, Debug)]
 pub enum ScriptFault {
     NoToken(usize),
     TooManyTokens(usize),
 }
 
 /// How many lexemes there were, and the place of the first that is no token.
-#[derive(Clone, Copy)]
+#[derive(Clone, Copy, PartialEq, Eq, Debug, Default)]
 pub struct Tally {
     pub tokens: usize,
     pub wrong: Option<usize>,
@@ -52,6 +52,7 @@ pub struct Tally {
 
 impl ScriptFault {
     /// The refusal's number.
+    // Stays: an outline prints the number, which `fault.number()` says and `u32::from(fault)` would not.
     pub fn number(self) -> u32
         ensures { result ≡ fault_number self }
     {
@@ -86,16 +87,27 @@ impl Statement {
     }
 }
 
-impl FirstWord {
-    pub fn statement_kind(self) -> StatementKind
-        ensures { result ≡ kind_of_word self }
-    {
-        match self {
+impl From<FirstWord> for StatementKind {
+    ghost from_gives = { λ word r. r ≡ kind_of_word word };
+
+    fn from(word: FirstWord) -> StatementKind {
+        match word {
             FirstWord::DefWord | FirstWord::TheoremWord | FirstWord::LemmaWord =>
                 StatementKind::Def,
             FirstWord::AxiomWord | FirstWord::ConstantWord => StatementKind::Axiom,
             FirstWord::CheckWord => StatementKind::Check,
             FirstWord::EvalWord => StatementKind::Eval,
+        }
+    }
+}
+
+impl From<Lexeme> for Span {
+    ghost from_gives = { λ l r. r ≡ span l };
+
+    fn from(lexeme: Lexeme) -> Span {
+        Span {
+            at: lexeme.at,
+            len: lexeme.len,
         }
     }
 }
@@ -106,7 +118,7 @@ impl Kind {
         ensures { result ≡ statement_kind self }
     {
         match self {
-            Kind::First(word) => Some(word.statement_kind()),
+            Kind::First(word) => Some(word.into()),
             Kind::Name | Kind::Number(_) | Kind::Fixed(_) | Kind::NoToken => None,
         }
     }
@@ -125,10 +137,7 @@ impl Tally {
     pub fn new() -> Tally
         ensures { result ≡ none_yet }
     {
-        Tally {
-            tokens: 0,
-            wrong: None,
-        }
+        Tally::default()
     }
 
     /// The tally with one lexeme more.
@@ -151,7 +160,7 @@ impl Tally {
 pub fn begins_with_letter(script: &[u8], at: usize) -> bool
     ensures { result ≡ is_ascii_alphabetic (slice_index script.now at) }
 {
-    at < script.len() && script[at].is_ascii_alphabetic()
+    script.get(at).is_some_and(|b| b.is_ascii_alphabetic())
 }
 
 /// The name that a statement would enter, by its kind and its second lexeme.
@@ -166,19 +175,12 @@ pub fn entered_name(
         (
             Some(StatementKind::Def | StatementKind::Axiom),
             Some(
-                Lexeme {
+                l @ Lexeme {
                     kind: Kind::Name,
-                    at,
-                    len,
+                    ..
                 },
             ),
-        ) => {
-            if begins_with_letter(script, at) {
-                Some(Span { at, len })
-            } else {
-                None
-            }
-        }
+        ) if begins_with_letter(script, l.at) => Some(l.into()),
         _ => None,
     }
 }

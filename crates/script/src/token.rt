@@ -1,10 +1,8 @@
 //! What a script is made of: tokens, and what parts them.
-ghost use Rattle.std.specs.Prelude.{◌≡◌};
-ghost use Rattle.script.specs.Marks.{code};
 
 /// A reserved word or a symbol of the language of terms, in this order: what begins an atom, what
 /// begins a head, what begins a longer form, what joins, what closes or parts.
-#[derive(Clone, Copy)]
+#[derive(Clone, Copy, PartialEq, Eq, Debug)]
 pub enum Mark {
     TypeWord,
     PropWord,
@@ -38,17 +36,8 @@ pub enum Mark {
     EndWord,
 }
 
-impl Mark {
-    /// Its number in that order.
-    pub fn code(self) -> u8
-        ensures { result ≡ code self }
-    {
-        self as u8
-    }
-}
-
 /// One of the seven words that begin statements.
-#[derive(Clone, Copy)]
+#[derive(Clone, Copy, PartialEq, Eq, Debug)]
 pub enum FirstWord {
     DefWord,
     TheoremWord,
@@ -60,7 +49,7 @@ pub enum FirstWord {
 }
 
 /// What a lexeme is. `NoToken` is a byte, a word or a number that is none.
-#[derive(Clone, Copy)]
+#[derive(Clone, Copy, PartialEq, Eq, Debug)]
 pub enum Kind {
     Name,
     Number(u16),
@@ -70,24 +59,22 @@ pub enum Kind {
 }
 
 /// What some bytes begin with, and its length. With no kind it is a blank or a comment.
-#[derive(Clone, Copy)]
+#[derive(Clone, Copy, PartialEq, Eq, Debug)]
 pub struct Piece {
     pub kind: Option<Kind>,
     pub len: usize,
 }
 
-/// A piece at its place in the script.
-#[derive(Clone, Copy)]
-pub struct Part {
-    pub kind: Option<Kind>,
+/// Something at its place in the script, with its length.
+#[derive(Clone, Copy, PartialEq, Eq, Debug)]
+pub struct Placed<K> {
+    pub kind: K,
     pub at: usize,
     pub len: usize,
 }
 
+/// A piece at its place.
+pub type Part = Placed<Option<Kind>>;
+
 /// A part that is no blank and no comment.
-#[derive(Clone, Copy)]
-pub struct Lexeme {
-    pub kind: Kind,
-    pub at: usize,
-    pub len: usize,
-}
+pub type Lexeme = Placed<Kind>;

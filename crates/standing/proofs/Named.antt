@@ -10,7 +10,7 @@ use Rattle.std.proofs.lemmas.Bool.Decides.{nat_tests}
 use Rattle.script.specs.declared.token.Kind.{Kind}
 use Rattle.script.specs.declared.token.Kind.TheVariants.{Name, Number, Fixed, First, NoToken}
 use Rattle.script.specs.declared.token.Piece.{Piece}
-use Rattle.script.specs.declared.token.Lexeme.{Lexeme}
+use Rattle.script.specs.Lexemes.{Lexeme}
 use Rattle.script.specs.declared.statement.StatementKind.{StatementKind}
 use Rattle.script.specs.declared.statement.Statement.{Statement}
 use Rattle.script.specs.Names.{bytes_at}

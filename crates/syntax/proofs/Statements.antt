@@ -5,7 +5,7 @@ use Rattle.script.specs.declared.statement.Statement.{Statement}
 use Rattle.script.specs.declared.statement.StatementKind.{StatementKind}
 use Rattle.script.specs.declared.token.Kind.{Kind}
 use Rattle.script.specs.declared.token.Kind.TheVariants.{Name, Number, Fixed, First, NoToken}
-use Rattle.script.specs.declared.token.Lexeme.{Lexeme}
+use Rattle.script.specs.Lexemes.{Lexeme}
 use Rattle.script.specs.Faults.{token_check}
 use Rattle.script.specs.Parts.{lexemes_from}
 use Rattle.script.specs.Statements.{statement_kind, runs, summary, summaries, start_of, head, statements_from}

@@ -1,7 +1,7 @@
 -- The words that are left of a statement.
 use Rattle.std.specs.Prelude.{◌≡◌, ℕ, Bool, true, false, cond, List, [], ◌∷◌, is_some, Some, None, Option, MatchOption}
 use Rattle.script.specs.declared.statement.Span.{Span}
-use Rattle.script.specs.declared.token.Lexeme.{Lexeme}
+use Rattle.script.specs.Lexemes.{Lexeme}
 use Rattle.script.specs.Names.{bytes_at}
 use Rattle.script.specs.Parts.{lexemes_from}
 use Rattle.script.specs.View.{script}

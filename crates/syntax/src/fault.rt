@@ -4,7 +4,7 @@ ghost use Rattle.syntax.specs.Faults.{fault_number, fault_place};
 
 /// A token that does not fit, a name that nothing has, a name that is entered already; each with
 /// its place.
-#[derive(Clone, Copy)]
+#[derive(Clone, Copy, PartialEq, Eq, Debug)]
 pub enum SyntaxFault {
     Misfit(usize),
     UnknownName(usize),

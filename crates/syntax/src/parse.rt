@@ -140,7 +140,7 @@ impl Parser<'_> {
             let t = self.expr()?;
             self.words.expect(Mark::Becomes)?;
             let e = self.expr()?;
-            let place = self.place_of(t);
+            let place = self.arena.place(t);
             return Ok(self.add(Node::Two(place, Binary::Ascribe, e, t)));
         }
         self.words.expect(Mark::Becomes)?;

@@ -99,22 +99,8 @@ impl Parser<'_> {
         ensures added { Adds (now self.old) (now self.new) (Node.Two (place (term self.old.arena.now e)) binary e f) result }
         ensures same { HoldsSame self.old self.new }
     {
-        let place = self.place_of(e);
+        let place = self.arena.place(e);
         self.add(Node::Two(place, binary, e, f))
-    }
-
-    // The place of the term at an index.
-    pub(crate) fn place_of(&self, id: usize) -> usize
-        ensures { result ≡ place (term self.now.arena.now id) }
-    {
-        match self.arena.at(id) {
-            Node::Sort(p, _)
-            | Node::Local(p, _)
-            | Node::Entry(p, _)
-            | Node::One(p, _, _)
-            | Node::Two(p, _, _, _)
-            | Node::Match(p, _, _, _) => p,
-        }
     }
 
     // What a name at a place means: the nearest binder, else the entry.

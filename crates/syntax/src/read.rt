@@ -18,7 +18,7 @@ use script::token::Mark;
 use term::arena::Arena;
 
 /// A statement that was read: what it is, what it does, and the index of its term.
-#[derive(Clone, Copy)]
+#[derive(Clone, Copy, PartialEq, Eq, Debug)]
 pub struct Sentence {
     pub statement: Statement,
     pub kind: StatementKind,
@@ -27,12 +27,32 @@ pub struct Sentence {
 
 /// Why a statement was not read: there is none, its tokens are refused, there are fewer free cells
 /// than twice its tokens and the budget, or it does not read.
-#[derive(Clone, Copy)]
+#[derive(Clone, Copy, PartialEq, Eq, Debug)]
 pub enum ReadFault {
     Nothing,
     Tokens(ScriptFault),
     NoRoom,
     Syntax(SyntaxFault),
+}
+
+impl From<ScriptFault> for ReadFault {
+    ghost use Rattle.syntax.specs.declared.read.ReadFault.TheVariants.{Tokens};
+
+    ghost from_gives = { λ fault r. r ≡ Tokens fault };
+
+    fn from(fault: ScriptFault) -> ReadFault {
+        ReadFault::Tokens(fault)
+    }
+}
+
+impl From<SyntaxFault> for ReadFault {
+    ghost use Rattle.syntax.specs.declared.read.ReadFault.TheVariants.{Syntax};
+
+    ghost from_gives = { λ fault r. r ≡ Syntax fault };
+
+    fn from(fault: SyntaxFault) -> ReadFault {
+        ReadFault::Syntax(fault)
+    }
 }
 
 impl ReadFault {
@@ -166,6 +186,7 @@ fn read_tokens(
 
 /// Reads the statement that comes next at a place, against the names of the entries. On a refusal
 /// the cells are as they were; however it ends, no binder is open.
+#[tactic(auto, using(grammar::proofs::Reader::one_statement, grammar::proofs::Misfit::misfits))]
 pub fn read_statement(
     script: &[u8],
     at: usize,
@@ -180,21 +201,15 @@ pub fn read_statement(
 {
     scope.close(0);
     let mut reader = Reader::from_place(script, at);
-    let Some(statement) = reader.next_statement() else {
-        return Err(ReadFault::Nothing)
-    };
-    if let Err(fault) = statement.check_tokens() {
-        return Err(ReadFault::Tokens(fault));
-    }
+    let statement = reader.next_statement().ok_or(ReadFault::Nothing)?;
+    statement.check_tokens()?;
     if arena.free() < arena.left() + 2 * statement.tokens {
         return Err(ReadFault::NoRoom);
     }
     let mark = arena.len();
-    match read_tokens(script, at, entries, scope, arena, statement) {
-        Ok(sentence) => Ok(sentence),
-        Err(fault) => {
-            arena.rewind(mark);
-            Err(ReadFault::Syntax(fault))
-        }
+    let read = read_tokens(script, at, entries, scope, arena, statement);
+    if read.is_err() {
+        arena.rewind(mark);
     }
+    Ok(read?)
 }

@@ -2,7 +2,7 @@
 ghost use Rattle.std.specs.Prelude.{◌≡◌, ◌+◌, ◌<◌, ◌≤◌, min, length, drop};
 ghost use Rattle.script.specs.Laws.{Rejoins, Cuts};
 ghost use Rattle.script.specs.Parts.{line_start, lexemes_from};
-ghost use Rattle.script.specs.View.{script, PartAhead, PartTaken, LexemeTaken, Sought};
+ghost use Rattle.script.specs.View.{script, Moves, PartAhead, PartTaken, LexemeTaken, Sought};
 
 use super::Reader;
 use crate::lex;
@@ -65,9 +65,7 @@ impl<'a> Reader<'a> {
     pub fn peek(&self) -> Option<Part>
         ensures { PartAhead (script self.now) self.now.at result }
     {
-        let Some(piece) = lex::first_piece(self.fresh(), self.rest()) else {
-            return None
-        };
+        let piece = lex::first_piece(self.fresh(), self.rest())?;
         Some(Part {
             kind: piece.kind,
             at: self.at,
@@ -77,21 +75,18 @@ impl<'a> Reader<'a> {
 
     /// The next part, passed; none at the end.
     pub fn next_part(&mut self) -> Option<Part>
-        ensures script { script self.new ≡ script self.old }
-        ensures taken { PartTaken (script self.old) self.old.at self.new.at result }
+        ensures { Moves PartTaken self.old self.new result }
     {
-        let Some(part) = self.peek() else { return None };
+        let part = self.peek()?;
         self.at += part.len;
         Some(part)
     }
 
     /// On to the next lexeme's first byte, or to the end; the lexeme is told and not passed.
     pub fn seek(&mut self) -> Option<Lexeme>
-        ensures script { script self.new ≡ script self.old }
-        ensures sought { Sought (script self.old) self.old.at self.new.at result }
+        ensures { Moves Sought self.old self.new result }
     {
-        loop {
-            let Some(part) = self.peek() else { return None };
+        while let Some(part) = self.peek() {
             if let Some(kind) = part.kind {
                 return Some(Lexeme {
                     kind,
@@ -101,16 +96,14 @@ impl<'a> Reader<'a> {
             }
             self.at += part.len;
         }
+        None
     }
 
     /// The next lexeme, passed; none at the end.
     pub fn next_lexeme(&mut self) -> Option<Lexeme>
-        ensures script { script self.new ≡ script self.old }
-        ensures taken { LexemeTaken (script self.old) self.old.at self.new.at result }
+        ensures { Moves LexemeTaken self.old self.new result }
     {
-        let Some(lexeme) = self.seek() else {
-            return None
-        };
+        let lexeme = self.seek()?;
         self.at += lexeme.len;
         Some(lexeme)
     }

@@ -31,10 +31,7 @@ fn pull(reader: &mut Reader) -> Option<Lexeme>
 fn is_mark(kind: Kind, m: Mark) -> bool
     ensures { (x : List ℕ) → result ≡ is_token m (as_token kind x) }
 {
-    match kind {
-        Kind::Fixed(k) => k.code() == m.code(),
-        _ => false,
-    }
+    kind == Kind::Fixed(m)
 }
 
 // Whether a lexeme begins an atom.
@@ -90,10 +87,7 @@ impl<'a> Ahead<'a> {
         ensures { Names self.old self.new result }
     {
         self.take(|l| match l.kind {
-            Kind::Name => Some(Span {
-                at: l.at,
-                len: l.len,
-            }),
+            Kind::Name => Some(l.into()),
             _ => None,
         })
     }

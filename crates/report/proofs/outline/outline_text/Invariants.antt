@@ -1,13 +1,10 @@
-use Rattle.std.proofs.Common.{◌≡◌, ◌+◌, ◌-◌, ◌≤◌, ◌++◌, length, vec_items}
+use Rattle.std.proofs.Common.{◌≡◌, ◌+◌, ◌++◌, vec_items}
+use Rattle.std.specs.Iterator.Adapters.{enumerate_source, enumerate_count}
 use Rattle.report.specs.Outline.{all_lines}
 use Rattle.script.specs.Statements.{statements_from}
-use Rattle.script.specs.View.{script}
+use Rattle.script.specs.Left.{left}
 use Rattle.report.proofs.outline.outline_text.Given as goal
 
-abbrev pub invariant-loop-st : goal.invariant-loop-st
-invariant-loop-st l =
-    (script l.reader ≡ l.script) × (l.number ≤ l.reader.at + 1)
-    × (vec_items l.out ++ all_lines l.number l.script (statements_from l.script l.reader.at) ≡ all_lines 1 l.script (statements_from l.script 0))
-
-abbrev pub decreases-loop-st : goal.decreases-loop-st
-decreases-loop-st l = length (script l.reader) - l.reader.at
+abbrev pub invariant-loop-i : goal.invariant-loop-i
+invariant-loop-i l =
+    vec_items l.out ++ all_lines (enumerate_count l.i-iterator + 1) l.script (left (enumerate_source l.i-iterator)) ≡ all_lines 1 l.script (statements_from l.script 0)

@@ -1,6 +1,8 @@
-use Rattle.std.proofs.Common.{rules}
 use Rattle.script.proofs.Laws.{rejoins, cuts}
 use Rattle.script.proofs.reader.Reader.new.Goals as goal
 
-pub returns : goal.returns
-returns c = record { start = search rules; rejoins = rejoins _; cuts = cuts _ }
+pub returns-clause-rejoins : goal.returns-clause-rejoins
+returns-clause-rejoins c = rejoins _
+
+pub returns-clause-cuts : goal.returns-clause-cuts
+returns-clause-cuts c = cuts _

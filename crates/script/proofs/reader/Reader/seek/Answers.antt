@@ -2,22 +2,16 @@ use Rattle.std.proofs.Common.{◌∙◌, arith}
 use Rattle.script.proofs.Views.{found_at, end_ahead, lexeme_ahead, gap_passed}
 use Rattle.script.proofs.reader.Reader.seek.Goals as goal
 
-pub returns-in_default : goal.returns-in_default
-returns-in_default c =
-    record {
-      script = c.loop-part.invariant.0;
-      sought = found_at _ _ _ _ _ c.loop-part.invariant.0 c.loop-part.invariant.1 c.loop-part.invariant.2 (end_ahead _ _ c.in_default.ensures);
-    }
+pub returns : goal.returns
+returns c = found_at c.loop-part.invariant (end_ahead _ _ c.in_default.ensures)
 
 pub returns-in-Some-kind : goal.returns-in-Some-kind
-returns-in-Some-kind c =
-    record {
-      script = c.loop-part.invariant.0;
-      sought =
-          found_at _ _ _ _ _ c.loop-part.invariant.0 c.loop-part.invariant.1 c.loop-part.invariant.2
-          (lexeme_ahead _ _ c.in-Some.part c.in-Some-kind.kind c.in-Some.ensures c.in-Some-kind.is);
-    }
+returns-in-Some-kind c = found_at c.loop-part.invariant (lexeme_ahead _ _ c.in-Some.part c.in-Some-kind.kind c.in-Some.ensures c.in-Some-kind.is)
 
 pub loop-part-preserved : goal.loop-part-preserved
 loop-part-preserved c =
-    (c.loop-part.invariant.0, c.loop-part.invariant.1 ∙ gap_passed _ _ c.in-Some.part c.in-Some.ensures c.in_default-kind.is, omega (arith, c.loop-part.invariant.2))
+    record {
+      script = c.loop-part.invariant.script;
+      same = c.loop-part.invariant.same ∙ gap_passed _ _ c.in-Some.part c.in-Some.ensures c.in_default-kind.is;
+      forward = omega (arith, c.loop-part.invariant.forward);
+    }

@@ -101,7 +101,7 @@ pub valued-returns-in_err-t-clause-parsed : goal.valued-returns-in_err-t-clause-
 valued-returns-in_err-t-clause-parsed t c = handed_on (Valued (now c.args.self.now) _) _ c.from_residual.ensures.1 (record { found = λ h. halt_part no_names (ate (start (now c.args.self.now) (valued _ h)) c.if-eat.ensures) c.in_err-t.ensures.parsed.found })
 
 pub valued-returns-then-eat-clause-parsed : goal.valued-returns-then-eat-clause-parsed
-valued-returns-then-eat-clause-parsed t c = record { found = (omega (arith, c.add.ensures.added.added.at, c.add.ensures.added.added.len), λ h. less (omega arith) (like (ap h (two_is Ascribe (sym (c.place_of-place.ensures ∙ ap place (still c.in_ok-t.t c.in_ok-e.ensures.parsed.found.moves c.in_ok-t.ensures.parsed.found.within))) refl (sym (still c.in_ok-t.t c.in_ok-e.ensures.parsed.found.moves c.in_ok-t.ensures.parsed.found.within)) ∙ sym c.add.ensures.added.added.made)) (added {d = 1} (omega arith) (then_part no_names (expected (then_part no_names (ate (start (now c.args.self.now) (valued _ h)) c.if-eat.ensures) c.in_ok-t.ensures.parsed.found) c.in_ok-expect.ensures) c.in_ok-e.ensures.parsed.found) c.add.ensures.added))) }
+valued-returns-then-eat-clause-parsed t c = record { found = (omega (arith, c.add.ensures.added.added.at, c.add.ensures.added.added.len), λ h. less (omega arith) (like (ap h (two_is Ascribe (sym (c.place-place.ensures ∙ ap place (still c.in_ok-t.t c.in_ok-e.ensures.parsed.found.moves c.in_ok-t.ensures.parsed.found.within))) refl (sym (still c.in_ok-t.t c.in_ok-e.ensures.parsed.found.moves c.in_ok-t.ensures.parsed.found.within)) ∙ sym c.add.ensures.added.added.made)) (added {d = 1} (omega arith) (then_part no_names (expected (then_part no_names (ate (start (now c.args.self.now) (valued _ h)) c.if-eat.ensures) c.in_ok-t.ensures.parsed.found) c.in_ok-expect.ensures) c.in_ok-e.ensures.parsed.found) c.add.ensures.added))) }
 
 pub unpack-expr-requires : goal.unpack-expr-requires
 unpack-expr-requires t c = (omega (arith, (expected (names_then (start (now c.args.self.now) (unpack_steps c.args.place (binders (now c.args.self.now)))) c.in_ok-x.ensures.parsed) c.in_ok-expect.ensures).moves.words), tt)
