@@ -6,15 +6,18 @@ use Rattle.std.proofs.lemmas.Option.{none-some}
 use Rattle.script.specs.declared.statement.Span.{Span}
 use Rattle.script.specs.Lexemes.{Lexeme}
 use Rattle.script.specs.declared.token.Mark.{Mark}
+use Rattle.script.specs.declared.token.Mark.TheVariants.{InWord}
 use Rattle.script.specs.View.{script}
 use Rattle.term.specs.declared.arena.Arena.{Arena}
 use Rattle.term.specs.declared.node.Node.{Node}
+use Rattle.term.specs.declared.node.Unary.{Unary}
 use Rattle.term.specs.declared.node.Binary.{Binary}
+use Rattle.term.specs.declared.node.Binary.TheVariants.{Let}
 use Rattle.term.specs.State.{term, cells_in, Kept}
 use Rattle.term.specs.Cells.{form}
-use Rattle.term.specs.Term.{Term, binary, choice}
+use Rattle.term.specs.Term.{Term, sort, unary, binary, choice}
 use Rattle.grammar.specs.Words.{Word, as_token, words}
-use Rattle.grammar.specs.Grammar.{Name, is, is_token, past, here, next_name, next_number, Sign, expr, Steps, give, refuse, misfit, next, a_name, a_number, part, eat, binder, typed, arm, meant, find, find_entry, production, Reading, tree, refusal, Follows, given, refused, unfit, passed, turned, named, nameless, numbered, numberless, parted, broken}
+use Rattle.grammar.specs.Grammar.{Name, is, is_token, past, here, next_name, next_number, Sign, expr, Steps, give, refuse, misfit, next, a_name, a_number, part, quantified, headed, eat, binder, typed, meant, find, find_entry, production, Reading, tree, refusal, Follows, given, refused, unfit, passed, turned, named, nameless, numbered, numberless, parted, broken}
 use Rattle.syntax.specs.declared.ahead.Ahead.{Ahead}
 use Rattle.syntax.specs.declared.scope.Scope.{Scope}
 use Rattle.syntax.specs.declared.fault.SyntaxFault.{SyntaxFault}
@@ -25,7 +28,7 @@ use Rattle.syntax.specs.Rooms.{Room}
 use Rattle.syntax.specs.Scopes.{opened, entry_names}
 use Rattle.syntax.specs.Choices.{chosen, next_chosen, choosing}
 use Rattle.syntax.proofs.Scopes.{opened_push, closed_again}
-use Rattle.syntax.specs.Parses.{Now, at, words_left, binders, entries, end, Moves, Leads, Gave, Stopped, Parsed, Eats, Names, Expects, Calls, Counts, under, HasRoomForCell, HasRoomForNames, Adds, OpensBinder, ClosesBinders, no_names, one_name, valued, two_names, two_arms, TypedBinder, Valued, TwoNames, AnArm, TwoArms, Means, AsUnder}
+use Rattle.syntax.specs.Parses.{Now, at, words_left, binders, entries, end, Moves, Leads, Gave, Stopped, Parsed, Eats, Names, Expects, Calls, Counts, under, HasRoomForCell, HasRoomForNames, Adds, OpensBinder, ClosesBinders, one_name, two_names, two_arms, TypedBinder, ReadsTerm, TwoNames, TwoArms, Means, AsUnder}
 
 pub kept_id : (a : Arena) → Kept a a
 kept_id a = record { long = omega arith; limit = refl; trees = λ k h. refl; chains = λ o h. refl }
@@ -265,26 +268,14 @@ module _ {c : ℕ} {x y z : Now} {p : Steps} where
       then l (subst (λ sc. Leads 1 y z (typed sc f) (f (span_bytes (text x.ahead) v.0) (term z.arena v.1))) (binders_same l.moves)
       (subst (λ t. Leads 1 y z (typed (binders y) f) (f (span_bytes t v.0) (term z.arena v.1))) l.moves.text (h.found.1 f)))
 
-  pub typed_halt : {f : Name → Term → Steps} {e : SyntaxFault} → Leads c x y p (typed (binders x) f) → TypedBinder y z (Err e) → Stopped x z p e
-  typed_halt {f} {e} l h = halt l (subst (λ sc. Stopped y z (typed sc f) e) (binders_same l.moves) (h.found f))
+  pub term_then : (q : List Name → (Term → Steps) → Steps) {f : Term → Steps} {i : ℕ} → Leads c x y p (q (binders x) f) → ReadsTerm q y z (Ok i) → Leads (c + 1) x z p (f (term z.arena i))
+  term_then q {f} {i} l h = then l (subst (λ sc. Leads 1 y z (q sc f) (f (term z.arena i))) (binders_same l.moves) (h.found.1 f))
 
-  pub valued_then : {f : Term → Steps} {i : ℕ} → Leads c x y p (valued (binders x) f) → Valued y z (Ok i) → Leads (c + 1) x z p (f (term z.arena i))
-  valued_then {f} {i} l h = then l (subst (λ sc. Leads 1 y z (valued sc f) (f (term z.arena i))) (binders_same l.moves) (h.found.1 f))
-
-  pub valued_halt : {f : Term → Steps} {e : SyntaxFault} → Leads c x y p (valued (binders x) f) → Valued y z (Err e) → Stopped x z p e
-  valued_halt {f} {e} l h = halt l (subst (λ sc. Stopped y z (valued sc f) e) (binders_same l.moves) (h.found f))
+  pub term_halt : (q : List Name → (Term → Steps) → Steps) {f : Term → Steps} {e : SyntaxFault} → Leads c x y p (q (binders x) f) → ReadsTerm q y z (Err e) → Stopped x z p e
+  term_halt q {f} {e} l h = halt l (subst (λ sc. Stopped y z (q sc f) e) (binders_same l.moves) (h.found f))
 
   pub names_then : {f : Name → Name → Steps} {v : Span × Span} → Leads c x y p (two_names f) → TwoNames y z (Ok v) → Leads (c + 1) x z p (f (span_bytes (text x.ahead) v.0) (span_bytes (text x.ahead) v.1))
   names_then {f} {v} l h = then l (subst (λ t. Leads 1 y z (two_names f) (f (span_bytes t v.0) (span_bytes t v.1))) l.moves.text (h.found f))
-
-  pub names_halt : {f : Name → Name → Steps} {e : SyntaxFault} → Leads c x y p (two_names f) → TwoNames y z (Err e) → Stopped x z p e
-  names_halt {f} l h = halt l (h.found f)
-
-  pub arm_then : {f : Term → Steps} {i : ℕ} → Leads c x y p (arm (binders x) f) → AnArm y z (Ok i) → Leads (c + 1) x z p (f (term z.arena i))
-  arm_then {f} {i} l h = then l (subst (λ sc. Leads 1 y z (arm sc f) (f (term z.arena i))) (binders_same l.moves) (h.found.1 f))
-
-  pub arm_halt : {f : Term → Steps} {e : SyntaxFault} → Leads c x y p (arm (binders x) f) → AnArm y z (Err e) → Stopped x z p e
-  arm_halt {f} {e} l h = halt l (subst (λ sc. Stopped y z (arm sc f) e) (binders_same l.moves) (h.found f))
 
   pub arms_then : {m : Mark} {f : Term → Term → Steps} {v : ℕ × ℕ} → Leads c x y p (two_arms m (binders x) f) → TwoArms m y z (Ok v) → Leads (c + 1) x z p (f (term z.arena v.0) (term z.arena v.1))
   arms_then {m} {f} {v} l h = then l (subst (λ sc. Leads 1 y z (two_arms m sc f) (f (term z.arena v.0) (term z.arena v.1))) (binders_same l.moves) (h.found.2 f))
@@ -440,11 +431,21 @@ module _ {c : ℕ} {x : Now} {r r' : Ahead} {es : List Span} {s : Scope} {a : Ar
         leads = λ z k. table_misses rows (entries (at r es s a)) r.end f u (left r) z (sym (picked rows r None h.picked g)) (subst (λ ws. Follows (entries (at r es s a)) r.end u ws z) h.rest k);
       })
 
--- the last part of an arm, or of what is valued, gives what it gives
-pub arm_by : {c d : ℕ} {x y z : Now} (n : Span) (r : Result ℕ SyntaxFault) → ((f : Term → Steps) → Leads c x y (arm (binders x) f) (part expr (under (one_name n) x) f)) → AsUnder (one_name n) d expr y z r → 1 ≤ c + d → AnArm x z r
-arm_by n (Ok i) l h w = record { found = (h.found.within, λ f. less w (then_part (one_name n) (l f) h.found)) }
-arm_by n (Err e) l h w = record { found = λ f. halt_part (one_name n) (l f) h.found }
+-- what stands for the row of a table that the next word is
+abbrev pub quantified_at : Now → Binary → Steps
+quantified_at x q = quantified q (binders x) (here (end x) (words_left x))
 
-pub valued_by : {c d : ℕ} {x y z : Now} (r : Result ℕ SyntaxFault) → ((f : Term → Steps) → Leads c x y (valued (binders x) f) (part expr (under no_names x) f)) → AsUnder no_names d expr y z r → 1 ≤ c + d → Valued x z r
-valued_by (Ok i) l h w = record { found = (h.found.within, λ f. less w (then_part no_names (l f) h.found)) }
-valued_by (Err e) l h w = record { found = λ f. halt_part no_names (l f) h.found }
+abbrev pub headed_at : Now → Unary → Steps
+headed_at x w = headed (binders x) (unary (here (end x) (words_left x)) w)
+
+abbrev pub sort_at : Now → ℕ → Steps
+sort_at x n = give (sort (here (end x) (words_left x)) n)
+
+-- what a let asks after its value
+abbrev pub let_rest : ℕ → Span → Now → Term → Steps
+let_rest p n x E = eat InWord (part expr (under (one_name n) x) (λ b. give (binary p Let E b)))
+
+-- the last part gives the term
+pub term_by : (q : List Name → (Term → Steps) → Steps) (pre : List ℕ → List Name) {c d : ℕ} {x y z : Now} (r : Result ℕ SyntaxFault) → ((f : Term → Steps) → Leads c x y (q (binders x) f) (part expr (under pre x) f)) → AsUnder pre d expr y z r → 1 ≤ c + d → ReadsTerm q x z r
+term_by q pre (Ok i) l h w = record { found = (h.found.within, λ f. less w (then_part pre (l f) h.found)) }
+term_by q pre (Err e) l h w = record { found = λ f. halt_part pre (l f) h.found }

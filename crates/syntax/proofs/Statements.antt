@@ -10,10 +10,10 @@ use Rattle.script.specs.Faults.{token_check}
 use Rattle.script.specs.Parts.{lexemes_from}
 use Rattle.script.specs.Statements.{statement_kind, runs, summary, summaries, start_of, head, statements_from}
 use Rattle.script.specs.Walk.{until, from_next}
-use Rattle.script.specs.View.{LexemeTaken, StatementTaken}
+use Rattle.script.specs.View.{LexemeTaken}
 use Rattle.script.proofs.Runs.{runs_first}
 use Rattle.term.specs.declared.arena.Arena.{Arena}
-use Rattle.term.specs.State.{term, cells_in, Kept, Rewound}
+use Rattle.term.specs.State.{term, cells_in, Kept}
 use Rattle.grammar.specs.Words.{Word, as_token, word, words}
 use Rattle.grammar.specs.Grammar.{here, tree, refusal, Reading, Follows}
 use Rattle.grammar.specs.Statements.{kind_in, statement, States, of_kind, of_none}
@@ -27,8 +27,7 @@ use Rattle.syntax.specs.Look.{text, left}
 use Rattle.syntax.specs.Scopes.{entry_names}
 use Rattle.syntax.specs.Parses.{at, entries, Gave, Stopped}
 use Rattle.syntax.specs.Rooms.{Room}
-use Rattle.syntax.specs.Reads.{statement_words, own, Next, ReadWell, Unaltered, TokensRead}
-use Rattle.syntax.proofs.Logic.{kept_id}
+use Rattle.syntax.specs.Reads.{statement_words, own, Next, ReadWell, TokensRead}
 
 kind_is : (k : Kind) (x : List ℕ) → kind_in (as_token k x) ≡ statement_kind k
 kind_is Name x = refl
@@ -45,10 +44,6 @@ summary_of s from l ls st e n =
     sym (ap (λ ms. head (summaries s (runs ms))) e ∙ ap (λ rs. head (summaries s rs)) (runs_first l ls)) ∙ n in
     let same : summary s (record { first = l; rest = until ls }) (start_of s (runs (from_next ls))) ≡ st = cc in
     (sym (ap (λ (x : Statement). x.tokens) same), sym (ap (λ (x : Statement). x.kind) same))
-
-pub no_lexeme : (s : List ℕ) (from : ℕ) → lexemes_from s from ≡ [] → statements_from s from ≡ []
-unfolding statements_from
-no_lexeme s from e = ap (λ ls. summaries s (runs ls)) e
 
 module _ (s : List ℕ) (from : ℕ) (l : Lexeme) (ls : List Lexeme) (e : lexemes_from s from ≡ l ∷ ls) where
   words_are : statement_words s from ≡ word s l ∷ words s (until ls)
@@ -107,35 +102,6 @@ module _ (s : List ℕ) (from : ℕ) (l : Lexeme) (ls : List Lexeme) (e : lexeme
   pub read_ill : (kind : StatementKind) (d : SyntaxFault) → Some kind ≡ statement_kind l.kind → r.end ≡ st.end → Stopped (at r vs sc a) (at r' vs' sc' b) (statement kind (entries (at r vs sc a)) (here r.end (left r))) d → States (entry_names s vs) st.end (statement_words s from) (refusal (fault_number d) (fault_place d)) × Kept a b × (b.left ≡ a.left)
   read_ill kind d h g f = (read_by kind _ h g f.follows, f.moves.kept, f.moves.budget)
 
-pub next_is : (s s' : List ℕ) (from at to : ℕ) (st : Statement) → s' ≡ s → at ≡ from → StatementTaken s' at to (Some st) → Next s from st
-next_is s s' from at to st e g h =
-    subst (λ x. Next x from st) e (subst (λ n. Next s' n st) g (ap head h.0))
-
-pub none_is : (s s' : List ℕ) (from at to : ℕ) → s' ≡ s → at ≡ from → StatementTaken s' at to None → statements_from s from ≡ []
-none_is s s' from at to e g h = subst (λ x. statements_from x from ≡ []) e (subst (λ n. statements_from s' n ≡ []) g h.0)
-
--- the cells are as they were: they were not touched, or cut again where they began
-pub untouched : (a : Arena) → Unaltered a a
-untouched a = record { kept = kept_id a; cells = refl; budget = refl }
-
-pub cut_again : (a m b : Arena) (mark : ℕ) → mark ≡ cells_in a → Kept a m → m.left ≡ a.left → Rewound m b mark → Unaltered a b
-cut_again a m b mark e k l h =
-    let same : cells_in b ≡ cells_in a = omega (arith, h.len, k.long) in
-    record {
-      kept =
-          record {
-            long = omega (arith, same);
-            limit = sym k.limit ∙ h.kept.limit;
-            trees = λ i p. sym (k.trees i (omega (arith, same))) ∙ h.kept.trees i p;
-            chains = λ o p. sym (k.chains o (omega (arith, same))) ∙ h.kept.chains o p;
-          };
-      cells = same;
-      budget = h.left ∙ l;
-    }
-
 -- the cells that a parser held are the ones that were lent to it
 pub read_still : (s : List ℕ) (from : ℕ) (es : List (List ℕ)) (a : Arena) {b b' : Arena} (st : Statement) (t : Result Sentence SyntaxFault) → TokensRead s from es a b st t → b' ≡ b → TokensRead s from es a b' st t
 read_still s from es a st t h e = subst (λ b. TokensRead s from es a b st t) (sym e) h
-
-pub shut_still : (s : Scope) {s' : Scope} → vec_items s.names ≡ [] → s' ≡ s → vec_items s'.names ≡ []
-shut_still s h e = subst (λ (s : Scope). vec_items s.names ≡ []) (sym e) h

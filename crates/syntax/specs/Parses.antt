@@ -135,18 +135,22 @@ TypedBinderFound x y (Err e) = (f : Name → Term → Steps) → Stopped x y (ty
 pub record TypedBinder (x y : Now) (t : Result (Span × ℕ) SyntaxFault) : Type 0 where
   pub found : TypedBinderFound x y t
 
+-- a term was read by the steps p, before any steps f
+abbrev pub TermFound : (List Name → (Term → Steps) → Steps) → Now → Now → Result ℕ SyntaxFault → Type 0
+TermFound p x y (Ok i) = (i < cells_in y.arena) × ((f : Term → Steps) → Leads 1 x y (p (binders x) f) (f (term y.arena i)))
+TermFound p x y (Err e) = (f : Term → Steps) → Stopped x y (p (binders x) f) e
+
+pub record ReadsTerm (p : List Name → (Term → Steps) → Steps) (x y : Now) (t : Result ℕ SyntaxFault) : Type 0 where
+  pub found : TermFound p x y t
+
 -- [":" T] ":=" E
 abbrev pub valued : List Name → (Term → Steps) → Steps
 valued sc f =
     next Colon (part expr sc (λ T. eat Becomes (part expr sc (λ E. f (binary (place T) Ascribe E T)))))
     (eat Becomes (part expr sc f))
 
-abbrev pub ValuedFound : Now → Now → Result ℕ SyntaxFault → Type 0
-ValuedFound x y (Ok i) = (i < cells_in y.arena) × ((f : Term → Steps) → Leads 1 x y (valued (binders x) f) (f (term y.arena i)))
-ValuedFound x y (Err e) = (f : Term → Steps) → Stopped x y (valued (binders x) f) e
-
-pub record Valued (x y : Now) (t : Result ℕ SyntaxFault) : Type 0 where
-  pub found : ValuedFound x y t
+abbrev pub Valued : Now → Now → Result ℕ SyntaxFault → Type 0
+Valued = ReadsTerm valued
 
 -- x "," y "}"
 abbrev pub two_names : (Name → Name → Steps) → Steps
@@ -173,12 +177,8 @@ pub record TwoArms (m : Mark) (x y : Now) (t : Result (ℕ × ℕ) SyntaxFault) 
   pub found : TwoArmsFound m x y t
 
 -- x "=>" F
-abbrev pub AnArmFound : Now → Now → Result ℕ SyntaxFault → Type 0
-AnArmFound x y (Ok i) = (i < cells_in y.arena) × ((f : Term → Steps) → Leads 1 x y (arm (binders x) f) (f (term y.arena i)))
-AnArmFound x y (Err e) = (f : Term → Steps) → Stopped x y (arm (binders x) f) e
-
-pub record AnArm (x y : Now) (t : Result ℕ SyntaxFault) : Type 0 where
-  pub found : AnArmFound x y t
+abbrev pub AnArm : Now → Now → Result ℕ SyntaxFault → Type 0
+AnArm = ReadsTerm arm
 
 -- parts of productions that are functions of their own
 abbrev pub bound_steps : ℕ → Binary → Mark → List Name → Steps

@@ -57,6 +57,7 @@ impl From<SyntaxFault> for ReadFault {
 
 impl ReadFault {
     /// The refusal's number.
+    // Stays: a report prints the number, which `fault.number()` says and `u32::from(fault)` would not.
     pub fn number(self) -> u32
         ensures { result ≡ fault_number self }
     {

@@ -1,23 +1,23 @@
 use Rattle.std.proofs.Common.{rules, sym, refl, ap, ◌∙◌, arith}
 use Rattle.std.proofs.lemmas.Bool.{cond-true, cond-false}
-use Rattle.script.specs.declared.token.Mark.TheVariants.{Maps, Comma, Closes, ClosesBrace, InWord}
+use Rattle.script.specs.declared.token.Mark.TheVariants.{Maps, Comma, Closes, ClosesBrace}
 use Rattle.term.specs.declared.node.Binary.TheVariants.{Pi, Sigma, Typed, Pair, Pack, Ascribe, App, Sum, Let, Unpack}
 use Rattle.term.specs.State.{term}
-use Rattle.term.specs.Term.{sort, unary, binary, place}
-use Rattle.grammar.specs.Grammar.{here, quantified, functions, lets, headed, bracketed, matches, eat, expr, products, give, part, arguments, typed, arm}
+use Rattle.term.specs.Term.{sort, unary, place}
+use Rattle.grammar.specs.Grammar.{functions, lets, headed, bracketed, matches, expr, products, give, part, arguments, typed, arm}
 use Rattle.syntax.specs.Choices.{quantifiers, heads, sorts}
-use Rattle.syntax.specs.Parses.{now, end, words_left, binders, under, no_names, one_name, both_names, bound_steps, arrow_steps, unpack_steps, pack_steps, closing_steps, bracket_steps, valued, two_arms, TypedBinder, Valued, TwoArms, AnArm}
-use Rattle.syntax.proofs.Logic.{start, halt, then_part, halt_part, gave, built, tail_part, ate, missed, expected, unexpected, called, uncalled, bound, unbound, counted, uncounted, typed_then, valued_then, valued_halt, names_then, arm_then, arm_halt, arms_then, arms_halt, rest_is, like, passed_on, misfits, still, room_cell, less, added, handed_on, two_is, meaning_then, meaning_halt, closed_under, choice_is, first_is, room_name, room_names, chose, chose_none, arm_by, valued_by}
+use Rattle.syntax.specs.Parses.{now, binders, no_names, one_name, both_names, bound_steps, arrow_steps, unpack_steps, pack_steps, closing_steps, bracket_steps, valued, two_arms, TypedBinder, Valued, TwoArms, AnArm}
+use Rattle.syntax.proofs.Logic.{start, halt, then_part, halt_part, gave, built, tail_part, ate, missed, expected, unexpected, called, uncalled, bound, unbound, counted, uncounted, typed_then, term_then, term_halt, names_then, arms_then, arms_halt, rest_is, like, passed_on, misfits, still, room_cell, less, added, handed_on, two_is, meaning_then, meaning_halt, closed_under, choice_is, first_is, room_name, room_names, chose, chose_none, quantified_at, headed_at, sort_at, let_rest, term_by}
 use Rattle.syntax.proofs.parser.Parser.+parse.Goals as goal
 
 pub expr-returns-clause-parsed : goal.expr-returns-clause-parsed
-expr-returns-clause-parsed t c = rest_is (λ p sc. arrow_steps sc) {at = 0} _ refl (missed (chose_none quantifiers (λ q. quantified q (binders (now c.args.self.now)) (here (end (now c.args.self.now)) (words_left (now c.args.self.now)))) _ (missed (start (now c.args.self.now) _) c.if-eat.ensures) c.in_default.ensures (λ l h. search rules)) c.if-eat-2.ensures) c.arrow.ensures.parsed (omega arith)
+expr-returns-clause-parsed t c = rest_is (λ p sc. arrow_steps sc) {at = 0} _ refl (missed (chose_none quantifiers (quantified_at (now c.args.self.now)) _ (missed (start (now c.args.self.now) _) c.if-eat.ensures) c.in_default.ensures (λ l h. search rules)) c.if-eat-2.ensures) c.arrow.ensures.parsed (omega arith)
 
 pub expr-returns-in-Some-clause-parsed : goal.expr-returns-in-Some-clause-parsed
-expr-returns-in-Some-clause-parsed t c = rest_is (λ p sc. bound_steps p c.in-Some.binary Comma sc) _ c.here-place.ensures (chose quantifiers (λ q. quantified q (binders (now c.args.self.now)) (here (end (now c.args.self.now)) (words_left (now c.args.self.now)))) _ c.in-Some.binary (missed (start (now c.args.self.now) _) c.if-eat.ensures) c.in-Some.ensures (λ l h. search rules)) c.bound.ensures.parsed (omega arith)
+expr-returns-in-Some-clause-parsed t c = rest_is (λ p sc. bound_steps p c.in-Some.binary Comma sc) _ c.here-place.ensures (chose quantifiers (quantified_at (now c.args.self.now)) _ c.in-Some.binary (missed (start (now c.args.self.now) _) c.if-eat.ensures) c.in-Some.ensures (λ l h. search rules)) c.bound.ensures.parsed (omega arith)
 
 pub expr-returns-then-eat-2-clause-parsed : goal.expr-returns-then-eat-2-clause-parsed
-expr-returns-then-eat-2-clause-parsed t c = rest_is (λ p sc. lets sc p) _ c.here-place.ensures (ate (chose_none quantifiers (λ q. quantified q (binders (now c.args.self.now)) (here (end (now c.args.self.now)) (words_left (now c.args.self.now)))) _ (missed (start (now c.args.self.now) _) c.if-eat.ensures) c.in_default.ensures (λ l h. search rules)) c.if-eat-2.ensures) c.lets.ensures.parsed (omega arith)
+expr-returns-then-eat-2-clause-parsed t c = rest_is (λ p sc. lets sc p) _ c.here-place.ensures (ate (chose_none quantifiers (quantified_at (now c.args.self.now)) _ (missed (start (now c.args.self.now) _) c.if-eat.ensures) c.in_default.ensures (λ l h. search rules)) c.if-eat-2.ensures) c.lets.ensures.parsed (omega arith)
 
 pub expr-returns-then-eat-clause-parsed : goal.expr-returns-then-eat-clause-parsed
 expr-returns-then-eat-clause-parsed t c = rest_is (λ p sc. functions sc p) _ c.here-place.ensures (ate (start (now c.args.self.now) _) c.if-eat.ensures) c.func.ensures.parsed (omega arith)
@@ -65,16 +65,16 @@ pub typed-returns-in_err-x-clause-parsed : goal.typed-returns-in_err-x-clause-pa
 typed-returns-in_err-x-clause-parsed t c = handed_on (TypedBinder (now c.args.self.now) _) _ c.from_residual-in_err-x.ensures.1 (record { found = λ h. unbound (expected (start (now c.args.self.now) (typed _ h)) c.in_ok-expect.ensures) c.in_err-x.ensures })
 
 pub lets-returns-clause-parsed : goal.lets-returns-clause-parsed
-lets-returns-clause-parsed t c = record { found = built (then_part (one_name c.in_ok-x.x) (expected (valued_then {f = λ E. eat InWord (part expr (under (one_name c.in_ok-x.x) (now c.args.self.now)) (λ b. give (binary c.args.place Let E b)))} (bound (missed (start (now c.args.self.now) (lets (binders (now c.args.self.now)) c.args.place)) c.if-eat.ensures) c.in_ok-x.ensures) c.in_ok-e.ensures.parsed) c.in_ok-expect.ensures) c.in_ok-b.ensures.parsed.found) c.add.ensures.added (two_is Let refl (sym (still c.in_ok-e.e c.in_ok-b.ensures.parsed.found.moves c.in_ok-e.ensures.parsed.found.0)) refl) (omega arith) }
+lets-returns-clause-parsed t c = record { found = built (then_part (one_name c.in_ok-x.x) (expected (term_then valued {f = let_rest c.args.place c.in_ok-x.x (now c.args.self.now)} (bound (missed (start (now c.args.self.now) (lets (binders (now c.args.self.now)) c.args.place)) c.if-eat.ensures) c.in_ok-x.ensures) c.in_ok-e.ensures.parsed) c.in_ok-expect.ensures) c.in_ok-b.ensures.parsed.found) c.add.ensures.added (two_is Let refl (sym (still c.in_ok-e.e c.in_ok-b.ensures.parsed.found.moves c.in_ok-e.ensures.parsed.found.0)) refl) (omega arith) }
 
 pub lets-returns-in_err-b-clause-parsed : goal.lets-returns-in_err-b-clause-parsed
-lets-returns-in_err-b-clause-parsed t c = passed_on _ c.from_residual-in_err-b.ensures.1 (halt_part (one_name c.in_ok-x.x) (expected (valued_then {f = λ E. eat InWord (part expr (under (one_name c.in_ok-x.x) (now c.args.self.now)) (λ b. give (binary c.args.place Let E b)))} (bound (missed (start (now c.args.self.now) (lets (binders (now c.args.self.now)) c.args.place)) c.if-eat.ensures) c.in_ok-x.ensures) c.in_ok-e.ensures.parsed) c.in_ok-expect.ensures) c.in_err-b.ensures.parsed.found)
+lets-returns-in_err-b-clause-parsed t c = passed_on _ c.from_residual-in_err-b.ensures.1 (halt_part (one_name c.in_ok-x.x) (expected (term_then valued {f = let_rest c.args.place c.in_ok-x.x (now c.args.self.now)} (bound (missed (start (now c.args.self.now) (lets (binders (now c.args.self.now)) c.args.place)) c.if-eat.ensures) c.in_ok-x.ensures) c.in_ok-e.ensures.parsed) c.in_ok-expect.ensures) c.in_err-b.ensures.parsed.found)
 
 pub lets-returns-in_err-e-clause-parsed : goal.lets-returns-in_err-e-clause-parsed
-lets-returns-in_err-e-clause-parsed t c = passed_on _ c.from_residual-in_err-e.ensures.1 (valued_halt {f = λ E. eat InWord (part expr (under (one_name c.in_ok-x.x) (now c.args.self.now)) (λ b. give (binary c.args.place Let E b)))} (bound (missed (start (now c.args.self.now) (lets (binders (now c.args.self.now)) c.args.place)) c.if-eat.ensures) c.in_ok-x.ensures) c.in_err-e.ensures.parsed)
+lets-returns-in_err-e-clause-parsed t c = passed_on _ c.from_residual-in_err-e.ensures.1 (term_halt valued {f = let_rest c.args.place c.in_ok-x.x (now c.args.self.now)} (bound (missed (start (now c.args.self.now) (lets (binders (now c.args.self.now)) c.args.place)) c.if-eat.ensures) c.in_ok-x.ensures) c.in_err-e.ensures.parsed)
 
 pub lets-returns-in_err-expect-clause-parsed : goal.lets-returns-in_err-expect-clause-parsed
-lets-returns-in_err-expect-clause-parsed t c = passed_on _ c.from_residual-in_err-expect.ensures.1 (unexpected (valued_then {f = λ E. eat InWord (part expr (under (one_name c.in_ok-x.x) (now c.args.self.now)) (λ b. give (binary c.args.place Let E b)))} (bound (missed (start (now c.args.self.now) (lets (binders (now c.args.self.now)) c.args.place)) c.if-eat.ensures) c.in_ok-x.ensures) c.in_ok-e.ensures.parsed) c.in_err-expect.ensures)
+lets-returns-in_err-expect-clause-parsed t c = passed_on _ c.from_residual-in_err-expect.ensures.1 (unexpected (term_then valued {f = let_rest c.args.place c.in_ok-x.x (now c.args.self.now)} (bound (missed (start (now c.args.self.now) (lets (binders (now c.args.self.now)) c.args.place)) c.if-eat.ensures) c.in_ok-x.ensures) c.in_ok-e.ensures.parsed) c.in_err-expect.ensures)
 
 pub lets-returns-in_err-x-clause-parsed : goal.lets-returns-in_err-x-clause-parsed
 lets-returns-in_err-x-clause-parsed t c = passed_on _ c.from_residual.ensures.1 (unbound (missed (start (now c.args.self.now) (lets (binders (now c.args.self.now)) c.args.place)) c.if-eat.ensures) c.in_err-x.ensures)
@@ -83,10 +83,10 @@ pub lets-returns-then-eat-clause-parsed : goal.lets-returns-then-eat-clause-pars
 lets-returns-then-eat-clause-parsed t c = rest_is (λ p sc. unpack_steps p sc) _ refl (ate (start (now c.args.self.now) (lets (binders (now c.args.self.now)) c.args.place)) c.if-eat.ensures) c.unpack.ensures.parsed (omega arith)
 
 pub lets-under-requires : goal.lets-under-requires
-lets-under-requires t c = (omega (arith, (expected (valued_then {f = λ E. eat InWord (part expr (under (one_name c.in_ok-x.x) (now c.args.self.now)) (λ b. give (binary c.args.place Let E b)))} (bound (missed (start (now c.args.self.now) (lets (binders (now c.args.self.now)) c.args.place)) c.if-eat.ensures) c.in_ok-x.ensures) c.in_ok-e.ensures.parsed) c.in_ok-expect.ensures).moves.words), room_name c.args.self.now.room (expected (valued_then {f = λ E. eat InWord (part expr (under (one_name c.in_ok-x.x) (now c.args.self.now)) (λ b. give (binary c.args.place Let E b)))} (bound (missed (start (now c.args.self.now) (lets (binders (now c.args.self.now)) c.args.place)) c.if-eat.ensures) c.in_ok-x.ensures) c.in_ok-e.ensures.parsed) c.in_ok-expect.ensures).moves (omega arith))
+lets-under-requires t c = (omega (arith, (expected (term_then valued {f = let_rest c.args.place c.in_ok-x.x (now c.args.self.now)} (bound (missed (start (now c.args.self.now) (lets (binders (now c.args.self.now)) c.args.place)) c.if-eat.ensures) c.in_ok-x.ensures) c.in_ok-e.ensures.parsed) c.in_ok-expect.ensures).moves.words), room_name c.args.self.now.room (expected (term_then valued {f = let_rest c.args.place c.in_ok-x.x (now c.args.self.now)} (bound (missed (start (now c.args.self.now) (lets (binders (now c.args.self.now)) c.args.place)) c.if-eat.ensures) c.in_ok-x.ensures) c.in_ok-e.ensures.parsed) c.in_ok-expect.ensures).moves (omega arith))
 
 pub valued-returns-clause-parsed : goal.valued-returns-clause-parsed
-valued-returns-clause-parsed t c = valued_by _ (λ f. expected (missed (start (now c.args.self.now) (valued _ f)) c.if-eat.ensures) c.in_ok-expect-2.ensures) c.expr-2.ensures.parsed (omega arith)
+valued-returns-clause-parsed t c = term_by valued no_names _ (λ f. expected (missed (start (now c.args.self.now) (valued _ f)) c.if-eat.ensures) c.in_ok-expect-2.ensures) c.expr-2.ensures.parsed (omega arith)
 
 pub valued-returns-in_err-e-clause-parsed : goal.valued-returns-in_err-e-clause-parsed
 valued-returns-in_err-e-clause-parsed t c = handed_on (Valued (now c.args.self.now) _) _ c.from_residual-in_err-e.ensures.1 (record { found = λ h. halt_part no_names (expected (then_part no_names (ate (start (now c.args.self.now) (valued _ h)) c.if-eat.ensures) c.in_ok-t.ensures.parsed.found) c.in_ok-expect.ensures) c.in_err-e.ensures.parsed.found })
@@ -161,13 +161,13 @@ pub prods-returns-then-not-eat-clause-parsed : goal.prods-returns-then-not-eat-c
 prods-returns-then-not-eat-clause-parsed t c = record { found = gave (missed (then_part no_names (start (now c.args.self.now) _) c.in_ok-e.ensures.parsed.found) c.if-not-eat.ensures) refl c.in_ok-e.ensures.parsed.found.within (omega arith) }
 
 pub app-returns-clause-parsed : goal.app-returns-clause-parsed
-app-returns-clause-parsed t c = tail_part no_names _ (then_part no_names (chose_none heads (λ w. headed (binders (now c.args.self.now)) (unary (here (end (now c.args.self.now)) (words_left (now c.args.self.now))) w)) _ (start (now c.args.self.now) _) c.in_default.ensures (λ l h. search rules)) c.in_ok-e.ensures.parsed.found) c.apply.ensures.parsed (omega arith)
+app-returns-clause-parsed t c = tail_part no_names _ (then_part no_names (chose_none heads (headed_at (now c.args.self.now)) _ (start (now c.args.self.now) _) c.in_default.ensures (λ l h. search rules)) c.in_ok-e.ensures.parsed.found) c.apply.ensures.parsed (omega arith)
 
 pub app-returns-in-Some-clause-parsed : goal.app-returns-in-Some-clause-parsed
-app-returns-in-Some-clause-parsed t c = rest_is (λ p sc. headed sc (unary p c.in-Some.unary)) _ c.here-place.ensures (chose heads (λ w. headed (binders (now c.args.self.now)) (unary (here (end (now c.args.self.now)) (words_left (now c.args.self.now))) w)) _ c.in-Some.unary (start (now c.args.self.now) _) c.in-Some.ensures (λ l h. search rules)) c.headed.ensures.parsed (omega arith)
+app-returns-in-Some-clause-parsed t c = rest_is (λ p sc. headed sc (unary p c.in-Some.unary)) _ c.here-place.ensures (chose heads (headed_at (now c.args.self.now)) _ c.in-Some.unary (start (now c.args.self.now) _) c.in-Some.ensures (λ l h. search rules)) c.headed.ensures.parsed (omega arith)
 
 pub app-returns-in_err-e-clause-parsed : goal.app-returns-in_err-e-clause-parsed
-app-returns-in_err-e-clause-parsed t c = passed_on _ c.from_residual.ensures.1 (halt_part no_names (chose_none heads (λ w. headed (binders (now c.args.self.now)) (unary (here (end (now c.args.self.now)) (words_left (now c.args.self.now))) w)) _ (start (now c.args.self.now) _) c.in_default.ensures (λ l h. search rules)) c.in_err-e.ensures.parsed.found)
+app-returns-in_err-e-clause-parsed t c = passed_on _ c.from_residual.ensures.1 (halt_part no_names (chose_none heads (headed_at (now c.args.self.now)) _ (start (now c.args.self.now) _) c.in_default.ensures (λ l h. search rules)) c.in_err-e.ensures.parsed.found)
 
 pub headed-returns-clause-parsed : goal.headed-returns-clause-parsed
 headed-returns-clause-parsed t c = tail_part no_names _ (like (ap (λ E. part (arguments E) (binders (now c.args.self.now)) give) (sym c.add-h.ensures.added.added.made)) (added {d = 0} (omega arith) (then_part no_names (start (now c.args.self.now) _) c.in_ok-e.ensures.parsed.found) c.add-h.ensures.added)) c.apply.ensures.parsed (omega arith)
@@ -185,22 +185,22 @@ pub apply-returns-then-not-begins-clause-parsed : goal.apply-returns-then-not-be
 apply-returns-then-not-begins-clause-parsed t c = record { found = gave (like (cond-false _ _ _ (sym c.if-not-begins.ensures)) (start (now c.args.self.now) _)) refl c.requires (omega arith) }
 
 pub atom-returns-clause-parsed : goal.atom-returns-clause-parsed
-atom-returns-clause-parsed t c = rest_is (λ p sc. bracket_steps p sc) _ c.here-place.ensures (missed (chose_none sorts (λ n. give (sort (here (end (now c.args.self.now)) (words_left (now c.args.self.now))) n)) _ (uncalled (start (now c.args.self.now) _) c.in_default.ensures) c.in_default-take.ensures (λ l h. search rules)) c.if-eat.ensures) c.bracket.ensures.parsed (omega arith)
+atom-returns-clause-parsed t c = rest_is (λ p sc. bracket_steps p sc) _ c.here-place.ensures (missed (chose_none sorts (sort_at (now c.args.self.now)) _ (uncalled (start (now c.args.self.now) _) c.in_default.ensures) c.in_default-take.ensures (λ l h. search rules)) c.if-eat.ensures) c.bracket.ensures.parsed (omega arith)
 
 pub atom-returns-in-Some-clause-parsed : goal.atom-returns-in-Some-clause-parsed
 atom-returns-in-Some-clause-parsed t c = record { found = built (meaning_then c.in-Some.x c.in_ok-node.node _ c.here-place.ensures (called (start (now c.args.self.now) _) c.in-Some.ensures) c.in_ok-node.ensures) c.add.ensures.added refl (omega arith) }
 
 pub atom-returns-in-Some-take-clause-parsed : goal.atom-returns-in-Some-take-clause-parsed
-atom-returns-in-Some-take-clause-parsed t c = record { found = built (chose sorts (λ n. give (sort (here (end (now c.args.self.now)) (words_left (now c.args.self.now))) n)) _ c.in-Some-take.n (uncalled (start (now c.args.self.now) _) c.in_default.ensures) c.in-Some-take.ensures (λ l h. search rules)) c.add-in-Some-take.ensures.added (ap (λ p. sort p c.in-Some-take.n) (sym c.here-place.ensures)) (omega arith) }
+atom-returns-in-Some-take-clause-parsed t c = record { found = built (chose sorts (sort_at (now c.args.self.now)) _ c.in-Some-take.n (uncalled (start (now c.args.self.now) _) c.in_default.ensures) c.in-Some-take.ensures (λ l h. search rules)) c.add-in-Some-take.ensures.added (ap (λ p. sort p c.in-Some-take.n) (sym c.here-place.ensures)) (omega arith) }
 
 pub atom-returns-in_err-n-clause-parsed : goal.atom-returns-in_err-n-clause-parsed
-atom-returns-in_err-n-clause-parsed t c = passed_on _ c.from_residual-in_err-n.ensures.1 (uncounted (ate (chose_none sorts (λ n. give (sort (here (end (now c.args.self.now)) (words_left (now c.args.self.now))) n)) _ (uncalled (start (now c.args.self.now) _) c.in_default.ensures) c.in_default-take.ensures (λ l h. search rules)) c.if-eat.ensures) c.in_err-n.ensures)
+atom-returns-in_err-n-clause-parsed t c = passed_on _ c.from_residual-in_err-n.ensures.1 (uncounted (ate (chose_none sorts (sort_at (now c.args.self.now)) _ (uncalled (start (now c.args.self.now) _) c.in_default.ensures) c.in_default-take.ensures (λ l h. search rules)) c.if-eat.ensures) c.in_err-n.ensures)
 
 pub atom-returns-in_err-node-clause-parsed : goal.atom-returns-in_err-node-clause-parsed
 atom-returns-in_err-node-clause-parsed t c = passed_on _ c.from_residual.ensures.1 (meaning_halt c.in-Some.x _ c.here-place.ensures (called (start (now c.args.self.now) _) c.in-Some.ensures) c.in_err-node.ensures)
 
 pub atom-returns-then-eat-clause-parsed : goal.atom-returns-then-eat-clause-parsed
-atom-returns-then-eat-clause-parsed t c = record { found = built (counted (ate (chose_none sorts (λ n. give (sort (here (end (now c.args.self.now)) (words_left (now c.args.self.now))) n)) _ (uncalled (start (now c.args.self.now) _) c.in_default.ensures) c.in_default-take.ensures (λ l h. search rules)) c.if-eat.ensures) c.in_ok-n.ensures) c.add-then-eat.ensures.added (ap (λ p. sort p c.in_ok-n.n) (sym c.here-place.ensures)) (omega arith) }
+atom-returns-then-eat-clause-parsed t c = record { found = built (counted (ate (chose_none sorts (sort_at (now c.args.self.now)) _ (uncalled (start (now c.args.self.now) _) c.in_default.ensures) c.in_default-take.ensures (λ l h. search rules)) c.if-eat.ensures) c.in_ok-n.ensures) c.add-then-eat.ensures.added (ap (λ p. sort p c.in_ok-n.n) (sym c.here-place.ensures)) (omega arith) }
 
 pub bracket-returns-clause-parsed : goal.bracket-returns-clause-parsed
 bracket-returns-clause-parsed t c = record { found = halt (missed (missed (missed (start (now c.args.self.now) _) c.if-eat.ensures) c.if-eat-2.ensures) c.if-eat-3.ensures) (misfits _ _ c.misfit.ensures) }
@@ -284,28 +284,28 @@ pub cases-returns-then-eat-clause-parsed : goal.cases-returns-then-eat-clause-pa
 cases-returns-then-eat-clause-parsed t c = record { found = built (arms_then (ate (expected (expected (then_part no_names (start (now c.args.self.now) (matches (binders (now c.args.self.now)) c.args.place)) c.in_ok-e.ensures.parsed.found) c.in_ok-expect.ensures) c.in_ok-expect-2.ensures) c.if-eat.ensures) c.in_ok-f.ensures.parsed) c.add.ensures.added (choice_is (sym (still c.in_ok-e.e (c.in_ok-f.ensures.parsed.found.2 (λ F G. give F)).moves c.in_ok-e.ensures.parsed.found.within))) (omega arith) }
 
 pub two_arms-arm-requires-2 : goal.two_arms-arm-requires-2
-two_arms-arm-requires-2 t c = (omega (arith, (expected (expected (arm_then (start (now c.args.self.now) (two_arms c.args.mark (binders (now c.args.self.now)) (λ F G. give F))) c.in_ok-f.ensures.parsed) c.in_ok-expect.ensures) c.in_ok-expect-2.ensures).moves.words), tt)
+two_arms-arm-requires-2 t c = (omega (arith, (expected (expected (term_then arm (start (now c.args.self.now) (two_arms c.args.mark (binders (now c.args.self.now)) (λ F G. give F))) c.in_ok-f.ensures.parsed) c.in_ok-expect.ensures) c.in_ok-expect-2.ensures).moves.words), tt)
 
 pub two_arms-returns-clause-parsed : goal.two_arms-returns-clause-parsed
-two_arms-returns-clause-parsed t c = record { found = (omega (arith, c.in_ok-f.ensures.parsed.found.0, (c.in_ok-g.ensures.parsed.found.1 (λ F. give F)).moves.kept.long), c.in_ok-g.ensures.parsed.found.0, λ h. less (omega arith) (like (first_is h (sym (still c.in_ok-f.f (c.in_ok-g.ensures.parsed.found.1 (λ F. give F)).moves c.in_ok-f.ensures.parsed.found.0))) (expected (arm_then (expected (expected (arm_then (start (now c.args.self.now) (two_arms c.args.mark _ h)) c.in_ok-f.ensures.parsed) c.in_ok-expect.ensures) c.in_ok-expect-2.ensures) c.in_ok-g.ensures.parsed) c.in_ok-expect-3.ensures))) }
+two_arms-returns-clause-parsed t c = record { found = (omega (arith, c.in_ok-f.ensures.parsed.found.0, (c.in_ok-g.ensures.parsed.found.1 (λ F. give F)).moves.kept.long), c.in_ok-g.ensures.parsed.found.0, λ h. less (omega arith) (like (first_is h (sym (still c.in_ok-f.f (c.in_ok-g.ensures.parsed.found.1 (λ F. give F)).moves c.in_ok-f.ensures.parsed.found.0))) (expected (term_then arm (expected (expected (term_then arm (start (now c.args.self.now) (two_arms c.args.mark _ h)) c.in_ok-f.ensures.parsed) c.in_ok-expect.ensures) c.in_ok-expect-2.ensures) c.in_ok-g.ensures.parsed) c.in_ok-expect-3.ensures))) }
 
 pub two_arms-returns-in_err-expect-2-clause-parsed : goal.two_arms-returns-in_err-expect-2-clause-parsed
-two_arms-returns-in_err-expect-2-clause-parsed t c = handed_on (TwoArms c.args.mark (now c.args.self.now) _) _ c.from_residual-in_err-expect-2.ensures.1 (record { found = λ h. unexpected (expected (arm_then (start (now c.args.self.now) (two_arms c.args.mark _ h)) c.in_ok-f.ensures.parsed) c.in_ok-expect.ensures) c.in_err-expect-2.ensures })
+two_arms-returns-in_err-expect-2-clause-parsed t c = handed_on (TwoArms c.args.mark (now c.args.self.now) _) _ c.from_residual-in_err-expect-2.ensures.1 (record { found = λ h. unexpected (expected (term_then arm (start (now c.args.self.now) (two_arms c.args.mark _ h)) c.in_ok-f.ensures.parsed) c.in_ok-expect.ensures) c.in_err-expect-2.ensures })
 
 pub two_arms-returns-in_err-expect-3-clause-parsed : goal.two_arms-returns-in_err-expect-3-clause-parsed
-two_arms-returns-in_err-expect-3-clause-parsed t c = handed_on (TwoArms c.args.mark (now c.args.self.now) _) _ c.from_residual-in_err-expect-3.ensures.1 (record { found = λ h. unexpected (arm_then (expected (expected (arm_then (start (now c.args.self.now) (two_arms c.args.mark _ h)) c.in_ok-f.ensures.parsed) c.in_ok-expect.ensures) c.in_ok-expect-2.ensures) c.in_ok-g.ensures.parsed) c.in_err-expect-3.ensures })
+two_arms-returns-in_err-expect-3-clause-parsed t c = handed_on (TwoArms c.args.mark (now c.args.self.now) _) _ c.from_residual-in_err-expect-3.ensures.1 (record { found = λ h. unexpected (term_then arm (expected (expected (term_then arm (start (now c.args.self.now) (two_arms c.args.mark _ h)) c.in_ok-f.ensures.parsed) c.in_ok-expect.ensures) c.in_ok-expect-2.ensures) c.in_ok-g.ensures.parsed) c.in_err-expect-3.ensures })
 
 pub two_arms-returns-in_err-expect-clause-parsed : goal.two_arms-returns-in_err-expect-clause-parsed
-two_arms-returns-in_err-expect-clause-parsed t c = handed_on (TwoArms c.args.mark (now c.args.self.now) _) _ c.from_residual-in_err-expect.ensures.1 (record { found = λ h. unexpected (arm_then (start (now c.args.self.now) (two_arms c.args.mark _ h)) c.in_ok-f.ensures.parsed) c.in_err-expect.ensures })
+two_arms-returns-in_err-expect-clause-parsed t c = handed_on (TwoArms c.args.mark (now c.args.self.now) _) _ c.from_residual-in_err-expect.ensures.1 (record { found = λ h. unexpected (term_then arm (start (now c.args.self.now) (two_arms c.args.mark _ h)) c.in_ok-f.ensures.parsed) c.in_err-expect.ensures })
 
 pub two_arms-returns-in_err-f-clause-parsed : goal.two_arms-returns-in_err-f-clause-parsed
-two_arms-returns-in_err-f-clause-parsed t c = handed_on (TwoArms c.args.mark (now c.args.self.now) _) _ c.from_residual.ensures.1 (record { found = λ h. arm_halt (start (now c.args.self.now) (two_arms c.args.mark _ h)) c.in_err-f.ensures.parsed })
+two_arms-returns-in_err-f-clause-parsed t c = handed_on (TwoArms c.args.mark (now c.args.self.now) _) _ c.from_residual.ensures.1 (record { found = λ h. term_halt arm (start (now c.args.self.now) (two_arms c.args.mark _ h)) c.in_err-f.ensures.parsed })
 
 pub two_arms-returns-in_err-g-clause-parsed : goal.two_arms-returns-in_err-g-clause-parsed
-two_arms-returns-in_err-g-clause-parsed t c = handed_on (TwoArms c.args.mark (now c.args.self.now) _) _ c.from_residual-in_err-g.ensures.1 (record { found = λ h. arm_halt (expected (expected (arm_then (start (now c.args.self.now) (two_arms c.args.mark _ h)) c.in_ok-f.ensures.parsed) c.in_ok-expect.ensures) c.in_ok-expect-2.ensures) c.in_err-g.ensures.parsed })
+two_arms-returns-in_err-g-clause-parsed t c = handed_on (TwoArms c.args.mark (now c.args.self.now) _) _ c.from_residual-in_err-g.ensures.1 (record { found = λ h. term_halt arm (expected (expected (term_then arm (start (now c.args.self.now) (two_arms c.args.mark _ h)) c.in_ok-f.ensures.parsed) c.in_ok-expect.ensures) c.in_ok-expect-2.ensures) c.in_err-g.ensures.parsed })
 
 pub arm-returns-clause-parsed : goal.arm-returns-clause-parsed
-arm-returns-clause-parsed t c = arm_by c.in_ok-x.x _ (λ f. expected (bound (start (now c.args.self.now) (arm _ f)) c.in_ok-x.ensures) c.in_ok-expect.ensures) c.under.ensures.parsed (omega arith)
+arm-returns-clause-parsed t c = term_by arm (one_name c.in_ok-x.x) _ (λ f. expected (bound (start (now c.args.self.now) (arm _ f)) c.in_ok-x.ensures) c.in_ok-expect.ensures) c.under.ensures.parsed (omega arith)
 
 pub arm-returns-in_err-expect-clause-parsed : goal.arm-returns-in_err-expect-clause-parsed
 arm-returns-in_err-expect-clause-parsed t c = handed_on (AnArm (now c.args.self.now) _) _ c.from_residual-in_err-expect.ensures.1 (record { found = λ h. unexpected (bound (start (now c.args.self.now) (arm _ h)) c.in_ok-x.ensures) c.in_err-expect.ensures })
