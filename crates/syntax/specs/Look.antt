@@ -1,5 +1,5 @@
 -- The words that are left of a statement.
-use Rattle.std.specs.Prelude.{ℕ, Bool, true, false, List, [], ◌∷◌, Some, None, Option}
+use Rattle.std.specs.Prelude.{◌≡◌, ℕ, Bool, true, false, cond, List, [], ◌∷◌, is_some, Some, None, Option, MatchOption}
 use Rattle.script.specs.declared.statement.Span.{Span}
 use Rattle.script.specs.Lexemes.{Lexeme}
 use Rattle.script.specs.Names.{bytes_at}
@@ -7,6 +7,7 @@ use Rattle.script.specs.Parts.{lexemes_from}
 use Rattle.script.specs.View.{script}
 use Rattle.script.specs.Walk.{until}
 use Rattle.grammar.specs.Words.{Word, words}
+use Rattle.grammar.specs.Grammar.{past}
 use Rattle.syntax.specs.declared.ahead.Ahead.{Ahead}
 
 abbrev pub text : Ahead → List ℕ
@@ -33,3 +34,10 @@ name_bytes s (Some x) = Some (span_bytes s x)
 abbrev pub is_nil : {X : Type 0} → List X → Bool
 is_nil [] = true
 is_nil (x ∷ xs) = false
+
+-- the next lexeme is passed if it is picked
+pub record Takes {T : Type 0} (P : Lexeme → Option T → Type 0) (r r' : Ahead) (o : Option T) : Type 0 where
+  pub same : text r' ≡ text r
+  pub end : r'.end ≡ r.end
+  pub picked : MatchOption r.next (o ≡ None) (λ l. P l o)
+  pub rest : left r' ≡ cond (is_some o) (past (left r)) (left r)

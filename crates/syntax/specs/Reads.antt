@@ -14,7 +14,6 @@ use Rattle.grammar.specs.Words.{Word, words}
 use Rattle.grammar.specs.Grammar.{Name, here, expr, Steps, give, part, ending, tree, refusal}
 use Rattle.grammar.specs.Statements.{statement, new_name, States}
 use Rattle.syntax.specs.declared.ahead.Ahead.{Ahead}
-use Rattle.syntax.specs.declared.known.Known.{Known}
 use Rattle.syntax.specs.declared.fault.SyntaxFault.{SyntaxFault}
 use Rattle.syntax.specs.declared.fault.SyntaxFault.TheVariants.{Misfit}
 use Rattle.syntax.specs.declared.read.Sentence.{Sentence}
@@ -22,7 +21,7 @@ use Rattle.syntax.specs.declared.read.ReadFault.{ReadFault}
 use Rattle.syntax.specs.declared.read.ReadFault.TheVariants.{Nothing, Tokens, NoRoom, Syntax}
 use Rattle.syntax.specs.Faults as syntax
 use Rattle.syntax.specs.Look.{left, is_nil}
-use Rattle.syntax.specs.Parses.{Now, words_left, entries, Leads, Stopped, Parsed}
+use Rattle.syntax.specs.Parses.{Now, words_left, entries, end, Leads, Stopped, Parsed}
 
 abbrev pub fault_number : ReadFault → ℕ
 fault_number Nothing = 22
@@ -89,22 +88,22 @@ ReadAs s from es a b (Err f) = ReadIll s from es a b f
 abbrev pub whole_steps : List Name → Steps
 whole_steps sc = part expr sc (λ E. ending (give E))
 
-abbrev pub FinishesBy : ℕ → Ahead → Result (Unit {0}) SyntaxFault → Type 0
-FinishesBy end r (Ok u) = is_nil (left r) ≡ true
-FinishesBy end r (Err e) = (is_nil (left r) ≡ false) × (e ≡ Misfit (here end (left r)))
+abbrev pub FinishesBy : Ahead → Result (Unit {0}) SyntaxFault → Type 0
+FinishesBy r (Ok u) = is_nil (left r) ≡ true
+FinishesBy r (Err e) = (is_nil (left r) ≡ false) × (e ≡ Misfit (here r.end (left r)))
 
-pub record Finishes (end : ℕ) (r : Ahead) (t : Result (Unit {0}) SyntaxFault) : Type 0 where
-  pub found : FinishesBy end r t
+pub record Finishes (r : Ahead) (t : Result (Unit {0}) SyntaxFault) : Type 0 where
+  pub found : FinishesBy r t
 
-abbrev pub NewNameFound : Known → Now → Now → Result Span SyntaxFault → Type 0
-NewNameFound k x y (Ok n) = (q : Steps) → Leads k 1 x y (new_name (entries k x) (here k.end (words_left x)) q) q
-NewNameFound k x y (Err e) = (q : Steps) → Stopped k x y (new_name (entries k x) (here k.end (words_left x)) q) e
+abbrev pub NewNameFound : Now → Now → Result Span SyntaxFault → Type 0
+NewNameFound x y (Ok n) = (q : Steps) → Leads 1 x y (new_name (entries x) (here (end x) (words_left x)) q) q
+NewNameFound x y (Err e) = (q : Steps) → Stopped x y (new_name (entries x) (here (end x) (words_left x)) q) e
 
-pub record NewName (k : Known) (x y : Now) (t : Result Span SyntaxFault) : Type 0 where
-  pub found : NewNameFound k x y t
+pub record NewName (x y : Now) (t : Result Span SyntaxFault) : Type 0 where
+  pub found : NewNameFound x y t
 
-abbrev pub ParsedStatement : Known → StatementKind → Now → Now → Result ℕ SyntaxFault → Type 0
-ParsedStatement k kind x y t = Parsed k 0 x y (statement kind (entries k x) (here k.end (words_left x))) t
+abbrev pub ParsedStatement : StatementKind → Now → Now → Result ℕ SyntaxFault → Type 0
+ParsedStatement kind x y t = Parsed 0 x y (statement kind (entries x) (here (end x) (words_left x))) t
 
 -- where a statement was read, no word is left
 abbrev pub Over : Ahead → Result ℕ SyntaxFault → Type 0

@@ -4,9 +4,10 @@ use script::token::Lexeme;
 
 pub mod look;
 
-/// A reader, and the lexeme before it, which is none where the statement ends.
+/// A reader, the lexeme before it, which is none where the statement ends, and the place of that end.
 #[derive(Drop)]
 pub struct Ahead<'a> {
     reader: Reader<'a>,
     next: Option<Lexeme>,
+    end: usize,
 }

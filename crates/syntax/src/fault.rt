@@ -4,7 +4,7 @@ ghost use Rattle.syntax.specs.Faults.{fault_number, fault_place};
 
 /// A token that does not fit, a name that nothing has, a name that is entered already; each with
 /// its place.
-#[derive(Clone, Copy)]
+#[derive(Clone, Copy, PartialEq, Eq, Debug)]
 pub enum SyntaxFault {
     Misfit(usize),
     UnknownName(usize),
@@ -13,6 +13,7 @@ pub enum SyntaxFault {
 
 impl SyntaxFault {
     /// The refusal's number.
+    // Stays: a report prints the number, which `fault.number()` says and `u32::from(fault)` would not.
     pub fn number(self) -> u32
         ensures { result ≡ fault_number self }
     {

@@ -3,7 +3,7 @@
 
 pub mod ahead;
 pub mod fault;
-pub mod known;
 pub mod parse;
+pub mod parser;
 pub mod read;
 pub mod scope;

@@ -1,546 +1,421 @@
-//! The grammar of terms: a function for each sign and for each production that needs one. Each reads
+//! The grammar of terms: a method for each sign and for each production that needs one. Each reads
 //! the words to come, under the open binders, into cells.
-ghost use Rattle.std.specs.Prelude.{◌≡◌, ◌+◌, ◌<◌, ◌≤◌, length, vec_len};
+ghost use Rattle.std.specs.Prelude.{◌≡◌, ◌<◌, List, ℕ};
 ghost use Rattle.term.specs.State.{term, cells_in};
-ghost use Rattle.term.specs.Term.{place, unary};
+ghost use Rattle.term.specs.Term.{unary};
 ghost use Rattle.grammar.specs.Grammar.{expr, sums, products, application, atom, arguments, functions, lets, matches, bracketed, headed};
-ghost use Rattle.syntax.specs.Look.{left};
-ghost use Rattle.syntax.specs.Parses.{at, Room, AsSign, AsUnder, AsSteps, TypedBinder, Valued, TwoNames, TwoArms, AnArm, Means};
-ghost use Rattle.syntax.specs.Parses.{one_name, both_names, bound_steps, arrow_steps, closing_steps, bracket_steps, unpack_steps, pack_steps, level_sign};
+ghost use Rattle.grammar.specs.Words.{as_token};
+ghost use Rattle.syntax.specs.Choices.{chosen, quantifiers, heads, sorts};
+ghost use Rattle.syntax.specs.Parses.{now, HoldsSame, HasRoomForNames, AsSign, AsUnder, AsSteps, TypedBinder, Valued, TwoNames, TwoArms, AnArm};
+ghost use Rattle.syntax.specs.Parses.{one_name, both_names, bound_steps, arrow_steps, closing_steps, bracket_steps, unpack_steps, pack_steps};
 
-use crate::ahead::Ahead;
 use crate::fault::SyntaxFault;
-use crate::known::Known;
-use crate::scope::{Open, Scope, binders};
+use crate::parser::{Open, Parser};
 use script::statement::Span;
-use script::token::Mark;
-use term::arena::Arena;
+use script::token::{Kind, Lexeme, Mark};
 use term::node::{Binary, Node, Unary};
-
-// What is read under a binder.
-#[derive(Clone, Copy)]
-pub enum Level {
-    Expr,
-    Products,
-}
 
 // An unused binder, which no name means.
 const NO_NAME: Span = Span { at: 0, len: 0 };
 
-// The place of the term at an index.
-fn place_of(a: &Arena, id: usize) -> usize
-    ensures { result ≡ place (term a.now id) }
+// What a lexeme quantifies by, if it begins such a form.
+fn quantifier(l: Lexeme) -> Option<Binary>
+    ensures { (x : List ℕ) → result ≡ chosen quantifiers (as_token l.kind x) }
 {
-    match a.at(id) {
-        Node::Sort(p, _) => p,
-        Node::Local(p, _) => p,
-        Node::Entry(p, _) => p,
-        Node::One(p, _, _) => p,
-        Node::Two(p, _, _, _) => p,
-        Node::Match(p, _, _, _) => p,
+    match l.kind {
+        Kind::Fixed(Mark::PiWord | Mark::ForallWord) => Some(Binary::Pi),
+        Kind::Fixed(Mark::SigmaWord) => Some(Binary::Sigma),
+        Kind::Fixed(Mark::ExistsWord) => Some(Binary::Exists),
+        _ => None,
     }
 }
 
-// E
-#[cycle(parse)]
-pub fn expr(k: &Known, r: &mut Ahead, s: &mut Scope, a: &mut Arena) -> Result<usize, SyntaxFault>
-    requires { Room (at r.old s.old a.old) }
-    ensures { AsSign k.now 1 expr (at r.old s.old a.old) (at r.new s.new a.new) result }
+// What a lexeme puts over the atom after it, if it is such a word.
+fn head(l: Lexeme) -> Option<Unary>
+    ensures { (x : List ℕ) → result ≡ chosen heads (as_token l.kind x) }
 {
-    let p = r.here(k.end);
-    if r.eat(Mark::FunWord) {
-        return func(k, r, s, a, p);
-    }
-    if r.eat(Mark::PiWord) {
-        return bound(k, r, s, a, p, Binary::Pi, Mark::Comma);
-    }
-    if r.eat(Mark::ForallWord) {
-        return bound(k, r, s, a, p, Binary::Pi, Mark::Comma);
-    }
-    if r.eat(Mark::SigmaWord) {
-        return bound(k, r, s, a, p, Binary::Sigma, Mark::Comma);
-    }
-    if r.eat(Mark::ExistsWord) {
-        return bound(k, r, s, a, p, Binary::Exists, Mark::Comma);
-    }
-    if r.eat(Mark::LetWord) {
-        return lets(k, r, s, a, p);
-    }
-    arrow(k, r, s, a)
-}
-
-// x "=>" E, or "(" x ":" E ")" "=>" E
-#[cycle(parse)]
-fn func(
-    k: &Known,
-    r: &mut Ahead,
-    s: &mut Scope,
-    a: &mut Arena,
-    p: usize,
-) -> Result<usize, SyntaxFault>
-    requires { Room (at r.old s.old a.old) }
-    ensures { AsSteps k.now 0 (λ sc. functions sc p) (at r.old s.old a.old) (at r.new s.new a.new) result }
-{
-    let Some(x) = r.name() else {
-        return bound(k, r, s, a, p, Binary::Typed, Mark::Maps)
-    };
-    r.expect(Mark::Maps, k.end)?;
-    let b = under(k, r, s, a, Level::Expr, x)?;
-    Ok(a.add(Node::One(p, Unary::Fun, b)))
-}
-
-// "(" x ":" E ")", the mark, and E under x
-#[cycle(parse)]
-fn bound(
-    k: &Known,
-    r: &mut Ahead,
-    s: &mut Scope,
-    a: &mut Arena,
-    p: usize,
-    q: Binary,
-    m: Mark,
-) -> Result<usize, SyntaxFault>
-    requires { Room (at r.old s.old a.old) }
-    ensures { AsSteps k.now 0 (bound_steps p q m) (at r.old s.old a.old) (at r.new s.new a.new) result }
-{
-    let (x, t) = typed(k, r, s, a)?;
-    r.expect(m, k.end)?;
-    let b = under(k, r, s, a, Level::Expr, x)?;
-    Ok(a.add(Node::Two(p, q, t, b)))
-}
-
-// "(" x ":" E ")"
-#[cycle(parse)]
-fn typed(
-    k: &Known,
-    r: &mut Ahead,
-    s: &mut Scope,
-    a: &mut Arena,
-) -> Result<(Span, usize), SyntaxFault>
-    requires { Room (at r.old s.old a.old) }
-    ensures { TypedBinder k.now (at r.old s.old a.old) (at r.new s.new a.new) result }
-{
-    r.expect(Mark::Opens, k.end)?;
-    let x = r.binder(k.end)?;
-    r.expect(Mark::Colon, k.end)?;
-    let t = expr(k, r, s, a)?;
-    r.expect(Mark::Closes, k.end)?;
-    Ok((x, t))
-}
-
-// "{" x "," y "}" ":=" E "in" E, or x [":" E] ":=" E "in" E
-#[cycle(parse)]
-fn lets(
-    k: &Known,
-    r: &mut Ahead,
-    s: &mut Scope,
-    a: &mut Arena,
-    p: usize,
-) -> Result<usize, SyntaxFault>
-    requires { Room (at r.old s.old a.old) }
-    ensures { AsSteps k.now 0 (λ sc. lets sc p) (at r.old s.old a.old) (at r.new s.new a.new) result }
-{
-    if r.eat(Mark::OpensBrace) {
-        return unpack(k, r, s, a, p);
-    }
-    let x = r.binder(k.end)?;
-    let e = valued(k, r, s, a)?;
-    r.expect(Mark::InWord, k.end)?;
-    let b = under(k, r, s, a, Level::Expr, x)?;
-    Ok(a.add(Node::Two(p, Binary::Let, e, b)))
-}
-
-// [":" T] ":=" E, the ascription of E to T where T is written
-#[cycle(parse)]
-pub fn valued(k: &Known, r: &mut Ahead, s: &mut Scope, a: &mut Arena) -> Result<usize, SyntaxFault>
-    requires { Room (at r.old s.old a.old) }
-    ensures { Valued k.now (at r.old s.old a.old) (at r.new s.new a.new) result }
-{
-    if r.eat(Mark::Colon) {
-        let t = expr(k, r, s, a)?;
-        r.expect(Mark::Becomes, k.end)?;
-        let e = expr(k, r, s, a)?;
-        let p = place_of(a, t);
-        return Ok(a.add(Node::Two(p, Binary::Ascribe, e, t)));
-    }
-    r.expect(Mark::Becomes, k.end)?;
-    let f = expr(k, r, s, a)?;
-    Ok(f)
-}
-
-// x "," y "}" ":=" E "in" E
-#[cycle(parse)]
-fn unpack(
-    k: &Known,
-    r: &mut Ahead,
-    s: &mut Scope,
-    a: &mut Arena,
-    p: usize,
-) -> Result<usize, SyntaxFault>
-    requires { Room (at r.old s.old a.old) }
-    ensures { AsSteps k.now 0 (unpack_steps p) (at r.old s.old a.old) (at r.new s.new a.new) result }
-{
-    let (x, y) = two_names(k, r, s, a)?;
-    r.expect(Mark::Becomes, k.end)?;
-    let e = expr(k, r, s, a)?;
-    r.expect(Mark::InWord, k.end)?;
-    let b = under_two(k, r, s, a, x, y)?;
-    Ok(a.add(Node::Two(p, Binary::Unpack, e, b)))
-}
-
-// x "," y "}"
-fn two_names(
-    k: &Known,
-    r: &mut Ahead,
-    s: &mut Scope,
-    a: &mut Arena,
-) -> Result<(Span, Span), SyntaxFault>
-    requires { Room (at r.old s.old a.old) }
-    ensures { TwoNames k.now (at r.old s.old a.old) (at r.new s.new a.new) result }
-{
-    let x = r.binder(k.end)?;
-    r.expect(Mark::Comma, k.end)?;
-    let y = r.binder(k.end)?;
-    r.expect(Mark::ClosesBrace, k.end)?;
-    Ok((x, y))
-}
-
-// sum ["->" E]
-#[cycle(parse)]
-fn arrow(k: &Known, r: &mut Ahead, s: &mut Scope, a: &mut Arena) -> Result<usize, SyntaxFault>
-    requires { Room (at r.old s.old a.old) }
-    ensures { AsSteps k.now 1 arrow_steps (at r.old s.old a.old) (at r.new s.new a.new) result }
-{
-    let e = sums(k, r, s, a)?;
-    if !r.eat(Mark::Arrow) {
-        return Ok(e);
-    }
-    let f = under(k, r, s, a, Level::Expr, NO_NAME)?;
-    let p = place_of(a, e);
-    Ok(a.add(Node::Two(p, Binary::Pi, e, f)))
-}
-
-// prod ["+" sum]
-#[cycle(parse)]
-fn sums(k: &Known, r: &mut Ahead, s: &mut Scope, a: &mut Arena) -> Result<usize, SyntaxFault>
-    requires { Room (at r.old s.old a.old) }
-    ensures { AsSign k.now 1 sums (at r.old s.old a.old) (at r.new s.new a.new) result }
-{
-    let e = prods(k, r, s, a)?;
-    if !r.eat(Mark::Plus) {
-        return Ok(e);
-    }
-    let f = sums(k, r, s, a)?;
-    let p = place_of(a, e);
-    Ok(a.add(Node::Two(p, Binary::Sum, e, f)))
-}
-
-// app ["*" prod]
-#[cycle(parse)]
-fn prods(k: &Known, r: &mut Ahead, s: &mut Scope, a: &mut Arena) -> Result<usize, SyntaxFault>
-    requires { Room (at r.old s.old a.old) }
-    ensures { AsSign k.now 1 products (at r.old s.old a.old) (at r.new s.new a.new) result }
-{
-    let e = app(k, r, s, a)?;
-    if !r.eat(Mark::Times) {
-        return Ok(e);
-    }
-    let f = under(k, r, s, a, Level::Products, NO_NAME)?;
-    let p = place_of(a, e);
-    Ok(a.add(Node::Two(p, Binary::Sigma, e, f)))
-}
-
-// ["fst" | "snd" | "inl" | "inr"] atom {atom}
-#[cycle(parse)]
-fn app(k: &Known, r: &mut Ahead, s: &mut Scope, a: &mut Arena) -> Result<usize, SyntaxFault>
-    requires { Room (at r.old s.old a.old) }
-    ensures { AsSign k.now 1 application (at r.old s.old a.old) (at r.new s.new a.new) result }
-{
-    let p = r.here(k.end);
-    if r.eat(Mark::FstWord) {
-        return headed(k, r, s, a, p, Unary::Fst);
-    }
-    if r.eat(Mark::SndWord) {
-        return headed(k, r, s, a, p, Unary::Snd);
-    }
-    if r.eat(Mark::InlWord) {
-        return headed(k, r, s, a, p, Unary::Inl);
-    }
-    if r.eat(Mark::InrWord) {
-        return headed(k, r, s, a, p, Unary::Inr);
-    }
-    let e = atom(k, r, s, a)?;
-    apply(k, r, s, a, e)
-}
-
-// atom {atom}, the first under the word before it
-#[cycle(parse)]
-fn headed(
-    k: &Known,
-    r: &mut Ahead,
-    s: &mut Scope,
-    a: &mut Arena,
-    p: usize,
-    u: Unary,
-) -> Result<usize, SyntaxFault>
-    requires { Room (at r.old s.old a.old) }
-    ensures { AsSteps k.now 0 (λ sc. headed sc (unary p u)) (at r.old s.old a.old) (at r.new s.new a.new) result }
-{
-    let e = atom(k, r, s, a)?;
-    let h = a.add(Node::One(p, u, e));
-    apply(k, r, s, a, h)
-}
-
-// {atom}, the arguments of e
-#[cycle(parse)]
-fn apply(
-    k: &Known,
-    r: &mut Ahead,
-    s: &mut Scope,
-    a: &mut Arena,
-    e: usize,
-) -> Result<usize, SyntaxFault>
-    requires known { e < cells_in a.old }
-    requires room { Room (at r.old s.old a.old) }
-    ensures { AsSign k.now 0 (arguments (term a.old e)) (at r.old s.old a.old) (at r.new s.new a.new) result }
-{
-    if !r.begins() {
-        return Ok(e);
-    }
-    let f = atom(k, r, s, a)?;
-    let p = place_of(a, e);
-    let h = a.add(Node::Two(p, Binary::App, e, f));
-    apply(k, r, s, a, h)
-}
-
-// What a name means: the nearest binder, else the entry.
-fn meaning(
-    k: &Known,
-    r: &Ahead,
-    s: &Scope,
-    a: &Arena,
-    p: usize,
-    x: Span,
-) -> Result<Node, SyntaxFault>
-    ensures { Means k.now (at r.now s.now a.now) p x result }
-{
-    let name = x.bytes(r.script());
-    if let Some(i) = s.nearest(r.script(), name) {
-        return Ok(Node::Local(p, i as u64));
-    }
-    match binders::entry_named(r.script(), k.entries, name) {
-        Some(j) => Ok(Node::Entry(p, j)),
-        None => Err(SyntaxFault::UnknownName(p)),
+    match l.kind {
+        Kind::Fixed(Mark::FstWord) => Some(Unary::Fst),
+        Kind::Fixed(Mark::SndWord) => Some(Unary::Snd),
+        Kind::Fixed(Mark::InlWord) => Some(Unary::Inl),
+        Kind::Fixed(Mark::InrWord) => Some(Unary::Inr),
+        _ => None,
     }
 }
 
-// x, a sort, or what brackets or "match" and "end" hold
-#[cycle(parse)]
-fn atom(k: &Known, r: &mut Ahead, s: &mut Scope, a: &mut Arena) -> Result<usize, SyntaxFault>
-    requires { Room (at r.old s.old a.old) }
-    ensures { AsSign k.now 1 atom (at r.old s.old a.old) (at r.new s.new a.new) result }
+// The level of the sort that a lexeme names, if it names one.
+fn sort(l: Lexeme) -> Option<u16>
+    ensures { (x : List ℕ) → result ≡ chosen sorts (as_token l.kind x) }
 {
-    let p = r.here(k.end);
-    if let Some(x) = r.name() {
-        let node = meaning(k, r, s, a, p, x)?;
-        return Ok(a.add(node));
-    }
-    if r.eat(Mark::TypeWord) {
-        return Ok(a.add(Node::Sort(p, 0)));
-    }
-    if r.eat(Mark::PropWord) {
-        return Ok(a.add(Node::Sort(p, 0)));
-    }
-    if r.eat(Mark::KindWord) {
-        return Ok(a.add(Node::Sort(p, 1)));
-    }
-    if r.eat(Mark::SortWord) {
-        let n = r.count(k.end)?;
-        return Ok(a.add(Node::Sort(p, n)));
-    }
-    bracket(k, r, s, a, p)
-}
-
-// "(" .. ")", "{" .. "}" or "match" .. "end"
-#[cycle(parse)]
-fn bracket(
-    k: &Known,
-    r: &mut Ahead,
-    s: &mut Scope,
-    a: &mut Arena,
-    p: usize,
-) -> Result<usize, SyntaxFault>
-    requires { Room (at r.old s.old a.old) }
-    ensures { AsSteps k.now 1 (bracket_steps p) (at r.old s.old a.old) (at r.new s.new a.new) result }
-{
-    if r.eat(Mark::Opens) {
-        return group(k, r, s, a, p);
-    }
-    if r.eat(Mark::OpensBrace) {
-        return pack(k, r, s, a, p);
-    }
-    if r.eat(Mark::MatchWord) {
-        return cases(k, r, s, a, p);
-    }
-    Err(SyntaxFault::Misfit(r.here(k.end)))
-}
-
-// E [(":" | ",") E] ")"
-#[cycle(parse)]
-fn group(
-    k: &Known,
-    r: &mut Ahead,
-    s: &mut Scope,
-    a: &mut Arena,
-    p: usize,
-) -> Result<usize, SyntaxFault>
-    requires { Room (at r.old s.old a.old) }
-    ensures { AsSteps k.now 0 (λ sc. bracketed sc p) (at r.old s.old a.old) (at r.new s.new a.new) result }
-{
-    let e = expr(k, r, s, a)?;
-    if r.eat(Mark::Colon) {
-        return closing(k, r, s, a, p, Binary::Ascribe, Mark::Closes, e);
-    }
-    if r.eat(Mark::Comma) {
-        return closing(k, r, s, a, p, Binary::Pair, Mark::Closes, e);
-    }
-    r.expect(Mark::Closes, k.end)?;
-    Ok(e)
-}
-
-// E and the mark that closes, beside e
-#[cycle(parse)]
-fn closing(
-    k: &Known,
-    r: &mut Ahead,
-    s: &mut Scope,
-    a: &mut Arena,
-    p: usize,
-    q: Binary,
-    m: Mark,
-    e: usize,
-) -> Result<usize, SyntaxFault>
-    requires known { e < cells_in a.old }
-    requires room { Room (at r.old s.old a.old) }
-    ensures { AsSteps k.now 0 (closing_steps p q m (term a.old e)) (at r.old s.old a.old) (at r.new s.new a.new) result }
-{
-    let f = expr(k, r, s, a)?;
-    r.expect(m, k.end)?;
-    Ok(a.add(Node::Two(p, q, e, f)))
-}
-
-// E "," E "}"
-#[cycle(parse)]
-fn pack(
-    k: &Known,
-    r: &mut Ahead,
-    s: &mut Scope,
-    a: &mut Arena,
-    p: usize,
-) -> Result<usize, SyntaxFault>
-    requires { Room (at r.old s.old a.old) }
-    ensures { AsSteps k.now 0 (pack_steps p) (at r.old s.old a.old) (at r.new s.new a.new) result }
-{
-    let e = expr(k, r, s, a)?;
-    r.expect(Mark::Comma, k.end)?;
-    closing(k, r, s, a, p, Binary::Pack, Mark::ClosesBrace, e)
-}
-
-// E "with" arm arm "end", one of each
-#[cycle(parse)]
-fn cases(
-    k: &Known,
-    r: &mut Ahead,
-    s: &mut Scope,
-    a: &mut Arena,
-    p: usize,
-) -> Result<usize, SyntaxFault>
-    requires { Room (at r.old s.old a.old) }
-    ensures { AsSteps k.now 0 (λ sc. matches sc p) (at r.old s.old a.old) (at r.new s.new a.new) result }
-{
-    let e = expr(k, r, s, a)?;
-    r.expect(Mark::WithWord, k.end)?;
-    r.expect(Mark::Bar, k.end)?;
-    if r.eat(Mark::InlWord) {
-        let (f, g) = two_arms(k, r, s, a, Mark::InrWord)?;
-        return Ok(a.add(Node::Match(p, e, f, g)));
-    }
-    r.expect(Mark::InrWord, k.end)?;
-    let (g, f) = two_arms(k, r, s, a, Mark::InlWord)?;
-    Ok(a.add(Node::Match(p, e, f, g)))
-}
-
-// x "=>" E "|", the mark, y "=>" E "end"
-#[cycle(parse)]
-fn two_arms(
-    k: &Known,
-    r: &mut Ahead,
-    s: &mut Scope,
-    a: &mut Arena,
-    m: Mark,
-) -> Result<(usize, usize), SyntaxFault>
-    requires { Room (at r.old s.old a.old) }
-    ensures { TwoArms k.now m (at r.old s.old a.old) (at r.new s.new a.new) result }
-{
-    let f = arm(k, r, s, a)?;
-    r.expect(Mark::Bar, k.end)?;
-    r.expect(m, k.end)?;
-    let g = arm(k, r, s, a)?;
-    r.expect(Mark::EndWord, k.end)?;
-    Ok((f, g))
-}
-
-// x "=>" E
-#[cycle(parse)]
-fn arm(k: &Known, r: &mut Ahead, s: &mut Scope, a: &mut Arena) -> Result<usize, SyntaxFault>
-    requires { Room (at r.old s.old a.old) }
-    ensures { AnArm k.now (at r.old s.old a.old) (at r.new s.new a.new) result }
-{
-    let x = r.binder(k.end)?;
-    r.expect(Mark::Maps, k.end)?;
-    let b = under(k, r, s, a, Level::Expr, x)?;
-    Ok(b)
-}
-
-// What the level asks, under the binder x, which is closed again however that ends
-#[cycle(parse)]
-fn under(
-    k: &Known,
-    r: &mut Ahead,
-    s: &mut Scope,
-    a: &mut Arena,
-    level: Level,
-    x: Span,
-) -> Result<usize, SyntaxFault>
-    requires names { vec_len s.old.names + length (left r.old) + 1 ≤ 4000 }
-    requires room { Room (at r.old s.old a.old) }
-    ensures { AsUnder (one_name x) k.now 1 (level_sign level) (at r.old s.old a.old) (at r.new s.new a.new) result }
-{
-    let was = s.count();
-    s.open(x);
-    let g = Open { scope: s, was };
-    match level {
-        Level::Expr => expr(k, r, g.scope, a),
-        Level::Products => prods(k, r, g.scope, a),
+    match l.kind {
+        Kind::Fixed(Mark::TypeWord | Mark::PropWord) => Some(0),
+        Kind::Fixed(Mark::KindWord) => Some(1),
+        _ => None,
     }
 }
 
-// E under the binders x and y, y nearest
-#[cycle(parse)]
-fn under_two(
-    k: &Known,
-    r: &mut Ahead,
-    s: &mut Scope,
-    a: &mut Arena,
-    x: Span,
-    y: Span,
-) -> Result<usize, SyntaxFault>
-    requires names { vec_len s.old.names + length (left r.old) + 2 ≤ 4000 }
-    requires room { Room (at r.old s.old a.old) }
-    ensures { AsUnder (both_names x y) k.now 1 expr (at r.old s.old a.old) (at r.new s.new a.new) result }
-{
-    let was = s.count();
-    s.open(x);
-    let g = Open { scope: s, was };
-    under(k, r, g.scope, a, Level::Expr, y)
+impl Parser<'_> {
+    /// E
+    #[cycle(parse)]
+    pub fn expr(&mut self) -> Result<usize, SyntaxFault>
+        ensures parsed { AsSign 1 expr (now self.old) (now self.new) result }
+        ensures same { HoldsSame self.old self.new }
+    {
+        let place = self.here();
+        if self.words.eat(Mark::FunWord) {
+            return self.func(place);
+        }
+        if let Some(binary) = self.words.take(quantifier) {
+            return self.bound(place, binary, Mark::Comma);
+        }
+        if self.words.eat(Mark::LetWord) {
+            return self.lets(place);
+        }
+        self.arrow()
+    }
+
+    // x "=>" E, or "(" x ":" E ")" "=>" E
+    #[cycle(parse)]
+    fn func(&mut self, place: usize) -> Result<usize, SyntaxFault>
+        ensures parsed { AsSteps 0 (λ sc. functions sc place) (now self.old) (now self.new) result }
+        ensures same { HoldsSame self.old self.new }
+    {
+        let Some(x) = self.words.name() else {
+            return self.bound(place, Binary::Typed, Mark::Maps)
+        };
+        self.words.expect(Mark::Maps)?;
+        let b = self.under(x)?;
+        Ok(self.add(Node::One(place, Unary::Fun, b)))
+    }
+
+    // "(" x ":" E ")", the mark, and E under x
+    #[cycle(parse)]
+    fn bound(&mut self, place: usize, binary: Binary, mark: Mark) -> Result<usize, SyntaxFault>
+        ensures parsed { AsSteps 0 (bound_steps place binary mark) (now self.old) (now self.new) result }
+        ensures same { HoldsSame self.old self.new }
+    {
+        let (x, t) = self.typed()?;
+        self.words.expect(mark)?;
+        let b = self.under(x)?;
+        Ok(self.add(Node::Two(place, binary, t, b)))
+    }
+
+    // "(" x ":" E ")"
+    #[cycle(parse)]
+    fn typed(&mut self) -> Result<(Span, usize), SyntaxFault>
+        ensures parsed { TypedBinder (now self.old) (now self.new) result }
+        ensures same { HoldsSame self.old self.new }
+    {
+        self.words.expect(Mark::Opens)?;
+        let x = self.words.binder()?;
+        self.words.expect(Mark::Colon)?;
+        let t = self.expr()?;
+        self.words.expect(Mark::Closes)?;
+        Ok((x, t))
+    }
+
+    // "{" x "," y "}" ":=" E "in" E, or x [":" E] ":=" E "in" E
+    #[cycle(parse)]
+    fn lets(&mut self, place: usize) -> Result<usize, SyntaxFault>
+        ensures parsed { AsSteps 0 (λ sc. lets sc place) (now self.old) (now self.new) result }
+        ensures same { HoldsSame self.old self.new }
+    {
+        if self.words.eat(Mark::OpensBrace) {
+            return self.unpack(place);
+        }
+        let x = self.words.binder()?;
+        let e = self.valued()?;
+        self.words.expect(Mark::InWord)?;
+        let b = self.under(x)?;
+        Ok(self.add(Node::Two(place, Binary::Let, e, b)))
+    }
+
+    /// [":" T] ":=" E, the ascription of E to T where T is written
+    #[cycle(parse)]
+    pub fn valued(&mut self) -> Result<usize, SyntaxFault>
+        ensures parsed { Valued (now self.old) (now self.new) result }
+        ensures same { HoldsSame self.old self.new }
+    {
+        if self.words.eat(Mark::Colon) {
+            let t = self.expr()?;
+            self.words.expect(Mark::Becomes)?;
+            let e = self.expr()?;
+            let place = self.arena.place(t);
+            return Ok(self.add(Node::Two(place, Binary::Ascribe, e, t)));
+        }
+        self.words.expect(Mark::Becomes)?;
+        self.expr()
+    }
+
+    // x "," y "}" ":=" E "in" E
+    #[cycle(parse)]
+    fn unpack(&mut self, place: usize) -> Result<usize, SyntaxFault>
+        ensures parsed { AsSteps 0 (unpack_steps place) (now self.old) (now self.new) result }
+        ensures same { HoldsSame self.old self.new }
+    {
+        let (x, y) = self.two_names()?;
+        self.words.expect(Mark::Becomes)?;
+        let e = self.expr()?;
+        self.words.expect(Mark::InWord)?;
+        let b = self.under_two(x, y)?;
+        Ok(self.add(Node::Two(place, Binary::Unpack, e, b)))
+    }
+
+    // x "," y "}"
+    fn two_names(&mut self) -> Result<(Span, Span), SyntaxFault>
+        ensures parsed { TwoNames (now self.old) (now self.new) result }
+        ensures same { HoldsSame self.old self.new }
+    {
+        let x = self.words.binder()?;
+        self.words.expect(Mark::Comma)?;
+        let y = self.words.binder()?;
+        self.words.expect(Mark::ClosesBrace)?;
+        Ok((x, y))
+    }
+
+    // sum ["->" E]
+    #[cycle(parse)]
+    fn arrow(&mut self) -> Result<usize, SyntaxFault>
+        ensures parsed { AsSteps 1 arrow_steps (now self.old) (now self.new) result }
+        ensures same { HoldsSame self.old self.new }
+    {
+        let e = self.sums()?;
+        if !self.words.eat(Mark::Arrow) {
+            return Ok(e);
+        }
+        let f = self.under(NO_NAME)?;
+        Ok(self.join(Binary::Pi, e, f))
+    }
+
+    // prod ["+" sum]
+    #[cycle(parse)]
+    fn sums(&mut self) -> Result<usize, SyntaxFault>
+        ensures parsed { AsSign 1 sums (now self.old) (now self.new) result }
+        ensures same { HoldsSame self.old self.new }
+    {
+        let e = self.prods()?;
+        if !self.words.eat(Mark::Plus) {
+            return Ok(e);
+        }
+        let f = self.sums()?;
+        Ok(self.join(Binary::Sum, e, f))
+    }
+
+    // app ["*" prod]
+    #[cycle(parse)]
+    fn prods(&mut self) -> Result<usize, SyntaxFault>
+        ensures parsed { AsSign 1 products (now self.old) (now self.new) result }
+        ensures same { HoldsSame self.old self.new }
+    {
+        let e = self.app()?;
+        if !self.words.eat(Mark::Times) {
+            return Ok(e);
+        }
+        let f = self.prods_under(NO_NAME)?;
+        Ok(self.join(Binary::Sigma, e, f))
+    }
+
+    // ["fst" | "snd" | "inl" | "inr"] atom {atom}
+    #[cycle(parse)]
+    fn app(&mut self) -> Result<usize, SyntaxFault>
+        ensures parsed { AsSign 1 application (now self.old) (now self.new) result }
+        ensures same { HoldsSame self.old self.new }
+    {
+        let place = self.here();
+        if let Some(unary) = self.words.take(head) {
+            return self.headed(place, unary);
+        }
+        let e = self.atom()?;
+        self.apply(e)
+    }
+
+    // atom {atom}, the first under the word before it
+    #[cycle(parse)]
+    fn headed(&mut self, place: usize, word: Unary) -> Result<usize, SyntaxFault>
+        ensures parsed { AsSteps 0 (λ sc. headed sc (unary place word)) (now self.old) (now self.new) result }
+        ensures same { HoldsSame self.old self.new }
+    {
+        let e = self.atom()?;
+        let h = self.add(Node::One(place, word, e));
+        self.apply(h)
+    }
+
+    // {atom}, the arguments of e
+    #[cycle(parse)]
+    fn apply(&mut self, e: usize) -> Result<usize, SyntaxFault>
+        requires { e < cells_in self.old.arena.now }
+        ensures parsed { AsSign 0 (arguments (term self.old.arena.now e)) (now self.old) (now self.new) result }
+        ensures same { HoldsSame self.old self.new }
+    {
+        if !self.begins() {
+            return Ok(e);
+        }
+        let f = self.atom()?;
+        let h = self.join(Binary::App, e, f);
+        self.apply(h)
+    }
+
+    // x, a sort, or what brackets or "match" and "end" hold
+    #[cycle(parse)]
+    fn atom(&mut self) -> Result<usize, SyntaxFault>
+        ensures parsed { AsSign 1 atom (now self.old) (now self.new) result }
+        ensures same { HoldsSame self.old self.new }
+    {
+        let place = self.here();
+        if let Some(x) = self.words.name() {
+            let node = self.meaning(place, x)?;
+            return Ok(self.add(node));
+        }
+        if let Some(n) = self.words.take(sort) {
+            return Ok(self.add(Node::Sort(place, n)));
+        }
+        if self.words.eat(Mark::SortWord) {
+            let n = self.words.count()?;
+            return Ok(self.add(Node::Sort(place, n)));
+        }
+        self.bracket(place)
+    }
+
+    // "(" .. ")", "{" .. "}" or "match" .. "end"
+    #[cycle(parse)]
+    fn bracket(&mut self, place: usize) -> Result<usize, SyntaxFault>
+        ensures parsed { AsSteps 1 (bracket_steps place) (now self.old) (now self.new) result }
+        ensures same { HoldsSame self.old self.new }
+    {
+        if self.words.eat(Mark::Opens) {
+            return self.group(place);
+        }
+        if self.words.eat(Mark::OpensBrace) {
+            return self.pack(place);
+        }
+        if self.words.eat(Mark::MatchWord) {
+            return self.cases(place);
+        }
+        Err(self.misfit())
+    }
+
+    // E [(":" | ",") E] ")"
+    #[cycle(parse)]
+    fn group(&mut self, place: usize) -> Result<usize, SyntaxFault>
+        ensures parsed { AsSteps 0 (λ sc. bracketed sc place) (now self.old) (now self.new) result }
+        ensures same { HoldsSame self.old self.new }
+    {
+        let e = self.expr()?;
+        if self.words.eat(Mark::Colon) {
+            return self.closing(place, Binary::Ascribe, Mark::Closes, e);
+        }
+        if self.words.eat(Mark::Comma) {
+            return self.closing(place, Binary::Pair, Mark::Closes, e);
+        }
+        self.words.expect(Mark::Closes)?;
+        Ok(e)
+    }
+
+    // E and the mark that closes, beside e
+    #[cycle(parse)]
+    fn closing(
+        &mut self,
+        place: usize,
+        binary: Binary,
+        mark: Mark,
+        e: usize,
+    ) -> Result<usize, SyntaxFault>
+        requires { e < cells_in self.old.arena.now }
+        ensures parsed { AsSteps 0 (closing_steps place binary mark (term self.old.arena.now e)) (now self.old) (now self.new) result }
+        ensures same { HoldsSame self.old self.new }
+    {
+        let f = self.expr()?;
+        self.words.expect(mark)?;
+        Ok(self.add(Node::Two(place, binary, e, f)))
+    }
+
+    // E "," E "}"
+    #[cycle(parse)]
+    fn pack(&mut self, place: usize) -> Result<usize, SyntaxFault>
+        ensures parsed { AsSteps 0 (pack_steps place) (now self.old) (now self.new) result }
+        ensures same { HoldsSame self.old self.new }
+    {
+        let e = self.expr()?;
+        self.words.expect(Mark::Comma)?;
+        self.closing(place, Binary::Pack, Mark::ClosesBrace, e)
+    }
+
+    // E "with" arm arm "end", one of each
+    #[cycle(parse)]
+    fn cases(&mut self, place: usize) -> Result<usize, SyntaxFault>
+        ensures parsed { AsSteps 0 (λ sc. matches sc place) (now self.old) (now self.new) result }
+        ensures same { HoldsSame self.old self.new }
+    {
+        let e = self.expr()?;
+        self.words.expect(Mark::WithWord)?;
+        self.words.expect(Mark::Bar)?;
+        if self.words.eat(Mark::InlWord) {
+            let (f, g) = self.two_arms(Mark::InrWord)?;
+            return Ok(self.add(Node::Match(place, e, f, g)));
+        }
+        self.words.expect(Mark::InrWord)?;
+        let (g, f) = self.two_arms(Mark::InlWord)?;
+        Ok(self.add(Node::Match(place, e, f, g)))
+    }
+
+    // x "=>" E "|", the mark, y "=>" E "end"
+    #[cycle(parse)]
+    fn two_arms(&mut self, mark: Mark) -> Result<(usize, usize), SyntaxFault>
+        ensures parsed { TwoArms mark (now self.old) (now self.new) result }
+        ensures same { HoldsSame self.old self.new }
+    {
+        let f = self.arm()?;
+        self.words.expect(Mark::Bar)?;
+        self.words.expect(mark)?;
+        let g = self.arm()?;
+        self.words.expect(Mark::EndWord)?;
+        Ok((f, g))
+    }
+
+    // x "=>" E
+    #[cycle(parse)]
+    fn arm(&mut self) -> Result<usize, SyntaxFault>
+        ensures parsed { AnArm (now self.old) (now self.new) result }
+        ensures same { HoldsSame self.old self.new }
+    {
+        let x = self.words.binder()?;
+        self.words.expect(Mark::Maps)?;
+        self.under(x)
+    }
+
+    // E under the binder x, which is closed again however that ends
+    #[cycle(parse)]
+    fn under(&mut self, x: Span) -> Result<usize, SyntaxFault>
+        requires { HasRoomForNames 1 (now self.old) }
+        ensures parsed { AsUnder (one_name x) 1 expr (now self.old) (now self.new) result }
+        ensures same { HoldsSame self.old self.new }
+    {
+        let was = self.open(x);
+        let open = Open { parser: self, was };
+        open.parser.expr()
+    }
+
+    // prod under the binder x
+    #[cycle(parse)]
+    fn prods_under(&mut self, x: Span) -> Result<usize, SyntaxFault>
+        requires { HasRoomForNames 1 (now self.old) }
+        ensures parsed { AsUnder (one_name x) 1 products (now self.old) (now self.new) result }
+        ensures same { HoldsSame self.old self.new }
+    {
+        let was = self.open(x);
+        let open = Open { parser: self, was };
+        open.parser.prods()
+    }
+
+    // E under the binders x and y, y nearest
+    #[cycle(parse)]
+    fn under_two(&mut self, x: Span, y: Span) -> Result<usize, SyntaxFault>
+        requires { HasRoomForNames 2 (now self.old) }
+        ensures parsed { AsUnder (both_names x y) 1 expr (now self.old) (now self.new) result }
+        ensures same { HoldsSame self.old self.new }
+    {
+        let was = self.open(x);
+        let open = Open { parser: self, was };
+        open.parser.under(y)
+    }
 }

@@ -5,13 +5,12 @@ ghost use Rattle.term.specs.State.{cells_in};
 ghost use Rattle.syntax.specs.Scopes.{entry_names};
 ghost use Rattle.grammar.specs.Misfit.{Misfits};
 ghost use Rattle.grammar.specs.Statements.{OneStatement};
-ghost use Rattle.syntax.specs.Parses.{at, Room, AsSteps};
+ghost use Rattle.syntax.specs.Parses.{now, HoldsSame, AsSteps};
 ghost use Rattle.syntax.specs.Reads.{Finishes, NewName, whole_steps, ParsedStatement, Over, Next, TokensRead, ReadAs, fault_number, fault_at};
 
 use crate::ahead::Ahead;
 use crate::fault::SyntaxFault;
-use crate::known::Known;
-use crate::parse;
+use crate::parser::Parser;
 use crate::scope::{Scope, binders};
 use script::reader::Reader;
 use script::statement::{ScriptFault, Span, Statement, StatementKind, begins_with_letter};
@@ -19,7 +18,7 @@ use script::token::Mark;
 use term::arena::Arena;
 
 /// A statement that was read: what it is, what it does, and the index of its term.
-#[derive(Clone, Copy)]
+#[derive(Clone, Copy, PartialEq, Eq, Debug)]
 pub struct Sentence {
     pub statement: Statement,
     pub kind: StatementKind,
@@ -28,7 +27,7 @@ pub struct Sentence {
 
 /// Why a statement was not read: there is none, its tokens are refused, there are fewer free cells
 /// than twice its tokens and the budget, or it does not read.
-#[derive(Clone, Copy)]
+#[derive(Clone, Copy, PartialEq, Eq, Debug)]
 pub enum ReadFault {
     Nothing,
     Tokens(ScriptFault),
@@ -36,8 +35,29 @@ pub enum ReadFault {
     Syntax(SyntaxFault),
 }
 
+impl From<ScriptFault> for ReadFault {
+    ghost use Rattle.syntax.specs.declared.read.ReadFault.TheVariants.{Tokens};
+
+    ghost from_gives = { λ fault r. r ≡ Tokens fault };
+
+    fn from(fault: ScriptFault) -> ReadFault {
+        ReadFault::Tokens(fault)
+    }
+}
+
+impl From<SyntaxFault> for ReadFault {
+    ghost use Rattle.syntax.specs.declared.read.ReadFault.TheVariants.{Syntax};
+
+    ghost from_gives = { λ fault r. r ≡ Syntax fault };
+
+    fn from(fault: SyntaxFault) -> ReadFault {
+        ReadFault::Syntax(fault)
+    }
+}
+
 impl ReadFault {
     /// The refusal's number.
+    // Stays: a report prints the number, which `fault.number()` says and `u32::from(fault)` would not.
     pub fn number(self) -> u32
         ensures { result ≡ fault_number self }
     {
@@ -61,70 +81,69 @@ impl ReadFault {
     }
 }
 
-// No word may be left.
-fn finish(r: &Ahead, end: usize) -> Result<(), SyntaxFault>
-    ensures { Finishes end r.now result }
-{
-    if r.at_end() {
-        return Ok(());
-    }
-    Err(SyntaxFault::Misfit(r.here(end)))
-}
-
-// E and nothing more.
-fn whole(k: &Known, r: &mut Ahead, s: &mut Scope, a: &mut Arena) -> Result<usize, SyntaxFault>
-    requires { Room (at r.old s.old a.old) }
-    ensures parsed { AsSteps k.now 1 whole_steps (at r.old s.old a.old) (at r.new s.new a.new) result }
-    ensures over { Over r.new result }
-{
-    let e = parse::expr(k, r, s, a)?;
-    finish(r, k.end)?;
-    Ok(e)
-}
-
-// A name that begins with a letter and is not yet entered.
-fn new_name(k: &Known, r: &mut Ahead, s: &Scope, a: &Arena) -> Result<Span, SyntaxFault>
-    ensures { NewName k.now (at r.old s.now a.now) (at r.new s.now a.now) result }
-{
-    let p = r.here(k.end);
-    let x = r.binder(k.end)?;
-    let name = x.bytes(r.script());
-    if !begins_with_letter(name, 0) {
-        return Err(SyntaxFault::Misfit(p));
-    }
-    match binders::entry_named(r.script(), k.entries, name) {
-        Some(_) => Err(SyntaxFault::KnownName(p)),
-        None => Ok(x),
-    }
-}
-
-// What a statement of this kind has after its first word.
-fn body(
-    k: &Known,
-    r: &mut Ahead,
-    s: &mut Scope,
-    a: &mut Arena,
-    kind: StatementKind,
-) -> Result<usize, SyntaxFault>
-    requires room { Room (at r.old s.old a.old) }
-    requires shut { s.old.names.items ≡ [] }
-    ensures parsed { ParsedStatement k.now kind (at r.old s.old a.old) (at r.new s.new a.new) result }
-    ensures over { Over r.new result }
-{
-    match kind {
-        StatementKind::Def => {
-            new_name(k, r, s, a)?;
-            let e = parse::valued(k, r, s, a)?;
-            finish(r, k.end)?;
-            Ok(e)
+impl Parser<'_> {
+    // No word may be left.
+    fn finish(&self) -> Result<(), SyntaxFault>
+        ensures { Finishes self.now.words result }
+    {
+        if self.words.at_end() {
+            Ok(())
+        } else {
+            Err(self.words.misfit())
         }
-        StatementKind::Axiom => {
-            new_name(k, r, s, a)?;
-            r.expect(Mark::Colon, k.end)?;
-            whole(k, r, s, a)
+    }
+
+    // E and nothing more.
+    fn whole(&mut self) -> Result<usize, SyntaxFault>
+        ensures parsed { AsSteps 1 whole_steps (now self.old) (now self.new) result }
+        ensures over { Over self.new.words result }
+        ensures same { HoldsSame self.old self.new }
+    {
+        let e = self.expr()?;
+        self.finish()?;
+        Ok(e)
+    }
+
+    // A name that begins with a letter and is not yet entered.
+    fn new_name(&mut self) -> Result<Span, SyntaxFault>
+        ensures parsed { NewName (now self.old) (now self.new) result }
+        ensures same { HoldsSame self.old self.new }
+    {
+        let place = self.here();
+        let words = &mut self.words;
+        let x = words.binder()?;
+        let script = words.script();
+        let name = x.bytes(script);
+        if !begins_with_letter(name, 0) {
+            return Err(SyntaxFault::Misfit(place));
         }
-        StatementKind::Check => whole(k, r, s, a),
-        StatementKind::Eval => whole(k, r, s, a),
+        match binders::entry_named(script, self.entries, name) {
+            Some(_) => Err(SyntaxFault::KnownName(place)),
+            None => Ok(x),
+        }
+    }
+
+    // What a statement of this kind has after its first word.
+    fn body(&mut self, kind: StatementKind) -> Result<usize, SyntaxFault>
+        requires { self.old.scope.now.names.items ≡ [] }
+        ensures parsed { ParsedStatement kind (now self.old) (now self.new) result }
+        ensures over { Over self.new.words result }
+        ensures same { HoldsSame self.old self.new }
+    {
+        match kind {
+            StatementKind::Def => {
+                self.new_name()?;
+                let e = self.valued()?;
+                self.finish()?;
+                Ok(e)
+            }
+            StatementKind::Axiom => {
+                self.new_name()?;
+                self.words.expect(Mark::Colon)?;
+                self.whole()
+            }
+            StatementKind::Check | StatementKind::Eval => self.whole(),
+        }
     }
 }
 
@@ -145,10 +164,6 @@ fn read_tokens(
     ensures read { TokensRead script.now (min at (length script.now)) (entry_names script.now entries.now) arena.old arena.new statement result }
     ensures shut { scope.new.names.items ≡ [] }
 {
-    let known = Known {
-        entries,
-        end: statement.end,
-    };
     let mut reader = Reader::from_place(script, at);
     let Some(first) = reader.next_lexeme() else {
         return Err(SyntaxFault::Misfit(statement.end))
@@ -156,8 +171,13 @@ fn read_tokens(
     let Some(kind) = first.kind.statement_kind() else {
         return Err(SyntaxFault::Misfit(first.at))
     };
-    let mut words = Ahead::new(reader);
-    let term = body(&known, &mut words, scope, arena, kind)?;
+    let mut parser = Parser {
+        words: Ahead::new(reader, statement.end),
+        entries,
+        scope,
+        arena,
+    };
+    let term = parser.body(kind)?;
     Ok(Sentence {
         statement,
         kind,
@@ -167,6 +187,7 @@ fn read_tokens(
 
 /// Reads the statement that comes next at a place, against the names of the entries. On a refusal
 /// the cells are as they were; however it ends, no binder is open.
+#[tactic(auto, using(grammar::proofs::Reader::one_statement, grammar::proofs::Misfit::misfits))]
 pub fn read_statement(
     script: &[u8],
     at: usize,
@@ -181,21 +202,15 @@ pub fn read_statement(
 {
     scope.close(0);
     let mut reader = Reader::from_place(script, at);
-    let Some(statement) = reader.next_statement() else {
-        return Err(ReadFault::Nothing)
-    };
-    if let Err(fault) = statement.check_tokens() {
-        return Err(ReadFault::Tokens(fault));
-    }
+    let statement = reader.next_statement().ok_or(ReadFault::Nothing)?;
+    statement.check_tokens()?;
     if arena.free() < arena.left() + 2 * statement.tokens {
         return Err(ReadFault::NoRoom);
     }
     let mark = arena.len();
-    match read_tokens(script, at, entries, scope, arena, statement) {
-        Ok(sentence) => Ok(sentence),
-        Err(fault) => {
-            arena.rewind(mark);
-            Err(ReadFault::Syntax(fault))
-        }
+    let read = read_tokens(script, at, entries, scope, arena, statement);
+    if read.is_err() {
+        arena.rewind(mark);
     }
+    Ok(read?)
 }

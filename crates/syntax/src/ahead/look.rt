@@ -5,7 +5,7 @@ ghost use Rattle.script.specs.View.{script};
 ghost use Rattle.script.specs.Walk.{until};
 ghost use Rattle.grammar.specs.Words.{as_token, words};
 ghost use Rattle.grammar.specs.Grammar.{is, past, here, begins, next_name, next_number, is_token, begins_token};
-ghost use Rattle.syntax.specs.Look.{text, coming, left, lexemes_left, name_bytes, is_nil};
+ghost use Rattle.syntax.specs.Look.{text, coming, left, lexemes_left, name_bytes, is_nil, Takes};
 ghost use Rattle.syntax.specs.Parses.{Eats, Names, Numbers, Expects, Calls, Counts};
 
 use super::Ahead;
@@ -19,13 +19,12 @@ fn pull(reader: &mut Reader) -> Option<Lexeme>
     ensures script { script reader.new ≡ script reader.old }
     ensures next { coming result (until (lexemes_from (script reader.old) reader.new.at)) ≡ until (lexemes_from (script reader.old) reader.old.at) }
 {
-    let Some(lexeme) = reader.next_lexeme() else {
-        return None
-    };
+    let lexeme = reader.next_lexeme()?;
     if lexeme.begins_statement() {
-        return None;
+        None
+    } else {
+        Some(lexeme)
     }
-    Some(lexeme)
 }
 
 // Whether a lexeme is this mark.
@@ -55,77 +54,66 @@ fn begins_atom(kind: Kind) -> bool
 }
 
 impl<'a> Ahead<'a> {
-    /// The words before the next first word, from where a reader stands.
-    pub fn new(reader: Reader<'a>) -> Ahead<'a>
+    /// The words before the next first word, from where a reader stands; the statement ends at `end`.
+    pub fn new(reader: Reader<'a>, end: usize) -> Ahead<'a>
         ensures text { text result ≡ script reader.entry }
         ensures left { left result ≡ words (script reader.entry) (until (lexemes_from (script reader.entry) reader.entry.at)) }
+        ensures end { result.end ≡ end }
     {
         let mut reader = reader;
         let next = pull(&mut reader);
-        Ahead { reader, next }
+        Ahead { reader, next, end }
+    }
+
+    // Passes the next word if it is what is picked, and answers with what it is picked as.
+    pub(crate) fn take<T, F: Fn(Lexeme) -> Option<T>>(&mut self, pick: F) -> Option<T>
+        requires { F.IsAlwaysCallable pick }
+        ensures { Takes (F.post pick) self.old self.new result }
+    {
+        let value = pick(self.next?)?;
+        self.next = pull(&mut self.reader);
+        Some(value)
     }
 
     /// Passes the next word if it is this mark.
     pub fn eat(&mut self, m: Mark) -> bool
         ensures { Eats m self.old self.new result }
     {
-        let Some(l) = self.next else { return false };
-        if !is_mark(l.kind, m) {
-            return false;
-        }
-        self.next = pull(&mut self.reader);
-        true
+        self.take(|l| is_mark(l.kind, m).then_some(())).is_some()
     }
 
     /// Passes the next word if it is a name.
     pub fn name(&mut self) -> Option<Span>
         ensures { Names self.old self.new result }
     {
-        let Some(l) = self.next else { return None };
-        match l.kind {
-            Kind::Name => {
-                self.next = pull(&mut self.reader);
-                Some(Span {
-                    at: l.at,
-                    len: l.len,
-                })
-            }
-            Kind::Number(_) | Kind::Fixed(_) | Kind::First(_) | Kind::NoToken => None,
-        }
+        self.take(|l| match l.kind {
+            Kind::Name => Some(l.into()),
+            _ => None,
+        })
     }
 
     /// Passes the next word if it is a number.
     pub fn number(&mut self) -> Option<u16>
         ensures { Numbers self.old self.new result }
     {
-        let Some(l) = self.next else { return None };
-        match l.kind {
-            Kind::Number(n) => {
-                self.next = pull(&mut self.reader);
-                Some(n)
-            }
-            Kind::Name | Kind::Fixed(_) | Kind::First(_) | Kind::NoToken => None,
-        }
+        self.take(|l| match l.kind {
+            Kind::Number(n) => Some(n),
+            _ => None,
+        })
     }
 
     /// Whether the next word begins an atom.
     pub fn begins(&self) -> bool
         ensures { result ≡ begins (left self.now) }
     {
-        match self.next {
-            Some(l) => begins_atom(l.kind),
-            None => false,
-        }
+        self.next.is_some_and(|l| begins_atom(l.kind))
     }
 
     /// The place of the next word, or the statement's end.
-    pub fn here(&self, end: usize) -> usize
-        ensures { result ≡ here end (left self.now) }
+    pub fn here(&self) -> usize
+        ensures { result ≡ here self.now.end (left self.now) }
     {
-        match self.next {
-            Some(l) => l.at,
-            None => end,
-        }
+        self.next.map_or(self.end, |l| l.at)
     }
 
     /// Whether no word is left.
@@ -135,34 +123,38 @@ impl<'a> Ahead<'a> {
         self.next.is_none()
     }
 
+    /// That the next word does not fit.
+    pub fn misfit(&self) -> SyntaxFault
+        ensures { result ≡ SyntaxFault.Misfit (here self.now.end (left self.now)) }
+    {
+        SyntaxFault::Misfit(self.here())
+    }
+
     /// Passes the next word, which has to be this mark.
-    pub fn expect(&mut self, m: Mark, end: usize) -> Result<(), SyntaxFault>
-        ensures { Expects end m self.old self.new result }
+    pub fn expect(&mut self, m: Mark) -> Result<(), SyntaxFault>
+        ensures { Expects m self.old self.new result }
     {
         if self.eat(m) {
-            return Ok(());
+            Ok(())
+        } else {
+            Err(self.misfit())
         }
-        Err(SyntaxFault::Misfit(self.here(end)))
     }
 
     /// Passes the next word, which has to be a name.
-    pub fn binder(&mut self, end: usize) -> Result<Span, SyntaxFault>
-        ensures { Calls end self.old self.new result }
+    pub fn binder(&mut self) -> Result<Span, SyntaxFault>
+        ensures { Calls self.old self.new result }
     {
-        match self.name() {
-            Some(name) => Ok(name),
-            None => Err(SyntaxFault::Misfit(self.here(end))),
-        }
+        let misfit = self.misfit();
+        self.name().ok_or(misfit)
     }
 
     /// Passes the next word, which has to be a number.
-    pub fn count(&mut self, end: usize) -> Result<u16, SyntaxFault>
-        ensures { Counts end self.old self.new result }
+    pub fn count(&mut self) -> Result<u16, SyntaxFault>
+        ensures { Counts self.old self.new result }
     {
-        match self.number() {
-            Some(n) => Ok(n),
-            None => Err(SyntaxFault::Misfit(self.here(end))),
-        }
+        let misfit = self.misfit();
+        self.number().ok_or(misfit)
     }
 
     /// The script.

@@ -45,10 +45,8 @@ impl Scope {
         ensures value { result ≡ find name.now (opened script.now self.now.names.items) }
         ensures bound { IfSome result (λ k. k < 4000) }
     {
-        let Some(i) = names::find(script, self.names.as_slice(), name) else {
-            return None
-        };
-        Some((self.names.len() - i) - 1)
+        let i = names::find(script, self.names.as_slice(), name)?;
+        Some(self.names.len() - i - 1)
     }
 }
 
