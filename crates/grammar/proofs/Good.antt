@@ -2,7 +2,7 @@
 use Rattle.std.proofs.Common.{◌≡◌, ℕ, zero, suc, pred, Bool, true, false, cond, eqb, List, [], ◌∷◌, get_or, take, drop, Some, None, Option, sym, refl, ap, ◌∙◌, subst, one-add, arith, rules}
 use Rattle.std.specs.Char.{is_ascii_alphabetic}
 use Rattle.std.specs.List.{prefix_len, AllByRecursion}
-use Rattle.std.specs.Option.{IfSome}
+use Rattle.std.specs.Option.{IfSome, option_or, unwrap_or}
 use Rattle.std.proofs.lemmas.Bool.{cond-true, or_left, and_parts, leb-true}
 use Rattle.std.proofs.lemmas.Grind.{common_steps}
 use Rattle.script.specs.declared.token.Kind.{Kind}
@@ -10,7 +10,7 @@ use Rattle.script.specs.declared.token.Kind.TheVariants.{Name, NoToken}
 use Rattle.script.specs.declared.token.Piece.{Piece}
 use Rattle.script.specs.Lexemes.{Lexeme}
 use Rattle.script.specs.Names.{bytes_at}
-use Rattle.script.specs.Tokens.{letter, word_byte, spelt, or_else, kind_or, reserved, word_kind, word_piece, token_piece, piece, sort_words, binder_words, part_words, first_words}
+use Rattle.script.specs.Tokens.{letter, word_byte, spelt, reserved, word_kind, word_piece, token_piece, piece, sort_words, binder_words, part_words, first_words}
 use Rattle.script.specs.Parts.{parts, parts_from, line_start, with_lexeme, lexemes, lexemes_from}
 use Rattle.script.specs.Statements.{is_name}
 use Rattle.script.proofs.Pieces.{leads}
@@ -25,7 +25,7 @@ spelt_by : (q : Kind → Type 0) (rows : List (List ℕ × Kind)) (w : List ℕ)
 spelt_by q [] w h = tt
 spelt_by q (r ∷ rows) w h = grind (arith, spelt_by q rows w h.1)
 
-or_by : (q : Kind → Type 0) (x y : Option Kind) → IfSome x q → IfSome y q → IfSome (or_else x y) q
+or_by : (q : Kind → Type 0) (x y : Option Kind) → IfSome x q → IfSome y q → IfSome (option_or x y) q
 or_by q None y h k = k
 or_by q (Some x) y h k = h
 
@@ -44,7 +44,7 @@ reserved_no_name w =
     reserved_by (λ k. is_name k ≡ false) w (refl, (refl, (refl, (refl, tt)))) (refl, (refl, (refl, (refl, (refl, (refl, (refl, tt)))))))
     (refl, (refl, (refl, (refl, (refl, (refl, (refl, tt))))))) (refl, (refl, (refl, (refl, (refl, (refl, (refl, tt)))))))
 
-free_word : (o : Option Kind) (k : Kind) → NoName o → kind_or o k ≡ Name → (o ≡ None) × (k ≡ Name)
+free_word : (o : Option Kind) (k : Kind) → NoName o → unwrap_or o k ≡ Name → (o ≡ None) × (k ≡ Name)
 free_word o k n e = grind arith
 
 short_word : (t : Bool) → cond t Name NoToken ≡ Name → t ≡ true

@@ -2,7 +2,7 @@
 use Rattle.std.proofs.Common.{◌≡◌, ℕ, ◌≤◌, Bool, true, false, ◌&&◌, List, [], ◌∷◌, get_or, take, Some, None, codes, Option, sym, refl, ap, ◌∙◌, arith}
 use Rattle.std.specs.Char.{is_ascii_alphabetic, is_ascii_digit}
 use Rattle.std.specs.List.{prefix_len, AllByRecursion}
-use Rattle.std.specs.Option.{IfSome}
+use Rattle.std.specs.Option.{IfSome, option_or, unwrap_or}
 use Rattle.std.proofs.lemmas.Bool.{both_ways, cond_both}
 use Rattle.std.proofs.lemmas.Grind.{common_steps}
 use Rattle.script.specs.declared.token.Kind.{Kind}
@@ -13,7 +13,7 @@ use Rattle.script.specs.declared.statement.StatementKind.{StatementKind}
 use Rattle.script.specs.declared.statement.Statement.{Statement}
 use Rattle.script.specs.Parts.{lexemes_from}
 use Rattle.script.specs.Statements.{statement_kind, runs, enters, head, entered, summary, start_of, summaries, statements_from}
-use Rattle.script.specs.Tokens.{letter, word_byte, blank, begins_with, or_else, kind_or, reserved, name_kind, word_kind, number_kind, symbol, piece_or, token_piece, token, piece, joining_symbols, single_symbols}
+use Rattle.script.specs.Tokens.{letter, word_byte, blank, begins_with, reserved, name_kind, word_kind, number_kind, symbol, token_piece, token, piece, joining_symbols, single_symbols}
 use Rattle.script.specs.Walk.{until, from_next}
 use Rattle.script.proofs.Runs.{runs_first}
 use Rattle.script.proofs.Pieces.{leads}
@@ -104,7 +104,7 @@ reserved_low w =
     reserved_by LowKind w (tt, (tt, (tt, (tt, tt)))) (tt, (tt, (tt, (tt, (tt, (tt, (tt, tt)))))))
     (tt, (tt, (tt, (tt, (tt, (tt, (tt, tt))))))) (tt, (tt, (tt, (tt, (tt, (tt, (tt, tt)))))))
 
-or_kind : (o : Option Kind) (k : Kind) → LowIf o → LowKind k → LowKind (kind_or o k)
+or_kind : (o : Option Kind) (k : Kind) → LowIf o → LowKind k → LowKind (unwrap_or o k)
 or_kind None k h i = i
 or_kind (Some x) k h i = h
 
@@ -123,7 +123,7 @@ symbol_low : (rows : List (List ℕ × Kind)) (bs : List ℕ) → AllRows LowKin
 symbol_low [] bs h = tt
 symbol_low (r ∷ rows) bs h = grind (arith, symbol_low rows bs h.1)
 
-or_symbol : (x y : Option Piece) → LowPiece x → LowPiece y → LowIf (piece_or (or_else x y) (token NoToken 1)).kind
+or_symbol : (x y : Option Piece) → LowPiece x → LowPiece y → LowIf (unwrap_or (option_or x y) (token NoToken 1)).kind
 or_symbol None None h k = tt
 or_symbol None (Some y) h k = k
 or_symbol (Some x) y h k = h
