@@ -1,9 +1,7 @@
--- Cells laid on the top, and taken out.
-use Rattle.std.proofs.Common.{◌≡◌, ℕ, ◌+◌, ◌-◌, ◌*◌, ◌^◌, ◌<◌, ◌≤◌, Bool, true, false, not, ◌||◌, leb, List, [], ◌∷◌, ◌++◌, length, take, drop, Some, None, Option, sym, refl, ap, ◌∙◌, append_assoc, arith, length-append, length-drop}
+-- Cells laid on the top, and what their trees are.
+use Rattle.std.proofs.Common.{◌≡◌, ℕ, ◌+◌, ◌*◌, ◌^◌, ◌<◌, ◌≤◌, Bool, true, false, not, ◌||◌, leb, List, [], ◌∷◌, ◌++◌, length, take, Some, None, Option, sym, refl, ap, ◌∙◌, arith, length-append}
 use Rattle.std.specs.List.{remove_range}
-use lib.Seq.{paste, take-append-le}
-use Rattle.std.proofs.lemmas.List.{drop-append-le, length-take-le, take_all, drop_all, append-nil}
-use Rattle.std.proofs.lemmas.List.Edits.{take-paste}
+use Rattle.std.proofs.lemmas.List.{length-take-le, drop_all, append-nil}
 use Rattle.term.specs.declared.node.Unary.{Unary}
 use Rattle.term.specs.declared.node.Unary.TheVariants.{Fun, Fst, Snd, Inl, Inr}
 use Rattle.term.specs.declared.node.Binary.{Binary}
@@ -17,22 +15,6 @@ use Rattle.term.specs.Term.{Term, sort, local, entry, unary, binary, choice, cel
 use Rattle.term.specs.Cells.{form, over, bound, reach, high, tree, chain, Sound}
 use Rattle.term.specs.Layout.{last, lay, lay_all, cells_of, shut, root_of}
 use Rattle.term.proofs.Trees.{pushed, cells_pos, taken}
-
-pub remove_range_push : (xs ys : List Cell) (c : Cell) (mark top : ℕ) → mark ≤ top → top ≤ length xs → ys ≡ xs ++ c ∷ [] → remove_range ys mark top ≡ remove_range xs mark top ++ c ∷ []
-remove_range_push xs ys c mark top h l e =
-    let h' : mark ≤ length xs = omega arith in
-    rw (e, take-append-le mark xs (c ∷ []) h', drop-append-le top xs (c ∷ []) l) (sym (append_assoc (take mark xs) (drop top xs) (c ∷ [])))
-
-pub length-remove_range : (xs : List Cell) (mark top : ℕ) → mark ≤ top → top ≤ length xs → length (remove_range xs mark top) + (top - mark) ≡ length xs
-length-remove_range xs mark top h l =
-    let h' : mark ≤ length xs = omega arith in
-    omega (arith, length-append (take mark xs) (drop top xs), length-take-le mark xs h', length-drop top xs)
-
--- what a copy down from top to mark leaves below its end
-pub removed : (xs ys zs : List Cell) (mark top n : ℕ) → mark ≤ top → zs ≡ paste xs mark (drop top xs) n → n + top ≡ length xs → ys ≡ take (mark + n) zs → ys ≡ remove_range xs mark top
-removed xs ys zs mark top n order e l t =
-    let b : n ≡ length (drop top xs) = omega (arith, length-drop top xs) in
-    cc (take-paste xs mark (drop top xs) n (omega arith) (omega arith), take_all n (drop top xs) (omega arith))
 
 -- cells after others, which keep their trees and contexts
 pub record Onto (xs ys : List Cell) : Type 0 where

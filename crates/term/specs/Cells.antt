@@ -1,5 +1,6 @@
 -- What a cell of the arena stands for: a tree, or a context.
-use Rattle.std.specs.Prelude.{ℕ, zero, suc, ◌+◌, ◌*◌, ◌^◌, ◌<◌, ◌≤◌, max, List, [], ◌∷◌, length, Some, None, Option, slice_index_or}
+use Rattle.std.specs.Prelude.{ℕ, zero, suc, ◌+◌, ◌*◌, ◌^◌, ◌<◌, ◌≤◌, max, List, [], ◌∷◌, length, map, Some, None, Option, slice_index_or}
+use Rattle.std.specs.Option.{option_map, option_map_or}
 use Rattle.term.specs.declared.node.Node.{Node}
 use Rattle.term.specs.declared.node.Node.TheVariants.{Sort, Local, Entry, One, Two, Match}
 use Rattle.term.specs.declared.node.Binder.{Binder}
@@ -23,8 +24,7 @@ root (Under b) f = sort 0 0
 
 -- one past an index
 abbrev pub over : Option ℕ → ℕ
-over None = 0
-over (Some i) = suc i
+over o = option_map_or suc o 0
 
 -- one past the highest part
 abbrev pub reach : Node → ℕ
@@ -71,16 +71,13 @@ pub record Bound : Type 0 where
 
 -- the bindings of a context alone
 abbrev pub bindings : List Bound → List (Option Term)
-bindings [] = []
-bindings (b ∷ bs) = b.value ∷ bindings bs
+bindings bs = map (λ b. b.value) bs
 
 abbrev pub typed : Option ℕ → (ℕ → Term) → Term
-typed None f = sort 0 0
-typed (Some i) f = f i
+typed o f = option_map_or f o (sort 0 0)
 
 abbrev pub bound : Option ℕ → (ℕ → Term) → Option Term
-bound None f = None
-bound (Some i) f = Some (f i)
+bound o f = option_map f o
 
 -- a binder over the trees of its parts
 abbrev pub opened : Binder → (ℕ → Term) → Bound

@@ -1,11 +1,12 @@
 -- How a tree is stored: compactly, with no sharing, each part before its whole.
-use Rattle.std.specs.Prelude.{◌≡◌, ℕ, ◌+◌, ◌-◌, ◌<◌, ◌≤◌, Bool, true, List, [], ◌∷◌, ◌++◌, length, take, Some, None, vec_items, Option, Result, MatchResult}
+use Rattle.std.specs.Prelude.{◌≡◌, ℕ, ◌+◌, ◌-◌, ◌<◌, ◌≤◌, Bool, true, List, [], ◌∷◌, ◌++◌, length, take, vec_items, Option, Result, MatchResult}
 use Rattle.term.specs.declared.node.Cell.{Cell}
 use Rattle.term.specs.declared.node.Cell.TheVariants.{Part}
 use Rattle.term.specs.declared.node.Node.TheVariants.{Sort, Local, Entry, One, Two, Match}
 use Rattle.term.specs.declared.faults.Spent.{Spent}
 use Rattle.term.specs.declared.node.Stored.{Stored}
 use Rattle.std.specs.List.{remove_range}
+use Rattle.std.specs.Option.{option_map, option_map_or}
 use Rattle.term.specs.declared.arena.Arena.{Arena}
 use Rattle.term.specs.declared.arena.gap.Gap.{Gap}
 use Rattle.term.specs.Term.{Term, sort, local, entry, unary, binary, choice, cells, closed}
@@ -27,6 +28,10 @@ lay xs (choice p E F G) =
     lay (lay (lay xs E) F) G
     ++ Part (Match p (last (lay xs E)) (last (lay (lay xs E) F)) (last (lay (lay (lay xs E) F) G))) ∷ []
 
+-- the gap lies in the arena
+abbrev pub HasGap : Arena → Gap → Type 0
+HasGap a g = g.top ≤ cells_in a
+
 -- the cells of an arena once the gap is closed
 abbrev pub close : Arena → Gap → List Cell
 close a g = remove_range (vec_items a.pool) g.mark g.top
@@ -40,21 +45,17 @@ pub record Lays (a b : Arena) (g : Gap) (ys : List Cell) (cost : ℕ) (r : Resul
 
 -- the same of a term that may be missing
 abbrev pub lay_all : List Cell → Option Term → List Cell
-lay_all xs None = xs
-lay_all xs (Some t) = lay xs t
+lay_all xs o = option_map_or (lay xs) o xs
 
 abbrev pub cells_of : Option Term → ℕ
-cells_of None = 0
-cells_of (Some t) = cells t
+cells_of o = option_map_or cells o 0
 
 abbrev pub shut : Option Term → Bool
-shut None = true
-shut (Some t) = closed 0 t
+shut o = option_map_or (closed 0) o true
 
 -- where its root comes to stand
 abbrev pub root_of : List Cell → Option Term → Option ℕ
-root_of ys None = None
-root_of ys (Some t) = Some (last ys)
+root_of ys o = option_map (λ _. last ys) o
 
 pub record LaysAll (a b : Arena) (g : Gap) (v : Option Term) (r : Result (Option ℕ) Spent) : Type 0 where
   pub kept : Kept a b

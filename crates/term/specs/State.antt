@@ -1,6 +1,7 @@
 -- What the functions of the arena do, in terms of trees and contexts.
 use Rattle.std.specs.Prelude.{◌≡◌, ℕ, ◌+◌, ◌*◌, ◌^◌, ◌<◌, ◌≤◌, min, Bool, true, false, cond, ◌&&◌, List, [], ◌∷◌, ◌++◌, Some, None, vec_items, vec_len, Option, Result, MatchResult, nat_le}
 use Rattle.std.specs.List.{slice_get}
+use Rattle.std.specs.Option.{option_map, option_map_or}
 use Rattle.term.specs.declared.node.Node.{Node}
 use Rattle.term.specs.declared.node.Binder.{Binder}
 use Rattle.term.specs.declared.node.Cell.{Cell}
@@ -127,21 +128,17 @@ pub record Entered (a b : Arena) (Γ : List Bound) (r : Result ℕ Spent) : Type
 
 -- a binder that was looked up, as one of a context, and its binding alone
 abbrev pub seen : Arena → Option Binder → Option Bound
-seen a None = None
-seen a (Some b) = Some (opened b (term a))
+seen a o = option_map (λ b. opened b (term a)) o
 
 abbrev pub seen_value : Arena → Option Binder → Option (Option Term)
-seen_value a None = None
-seen_value a (Some b) = Some (opened b (term a)).value
+seen_value a o = option_map (λ b. (opened b (term a)).value) o
 
 abbrev pub span_of : Option Binder → ℕ
-span_of None = 0
-span_of (Some b) = span (Under b)
+span_of o = option_map_or (λ b. span (Under b)) o 0
 
 -- one past the number of a binder that is there
 abbrev pub depth_of : Option Binder → ℕ → ℕ
-depth_of None k = 0
-depth_of (Some b) k = k + 1
+depth_of o k = option_map_or (λ _. k + 1) o 0
 
 -- the k-th binder of a context, from the nearest
 pub record Found (a : Arena) (o : Option ℕ) (k : ℕ) (r : Option Binder) : Type 0 where

@@ -1,6 +1,7 @@
 -- Terms as trees of cells, and what lifting, lowering and putting in make of them.
 -- Each cell has the place of its first byte in the script.
-use Rattle.std.specs.Prelude.{ℕ, ◌+◌, ◌-◌, Bool, true, false, cond, not, ◌&&◌, ◌||◌, List, [], ◌∷◌, Some, None, Option, ◌==◌, nat_le, nat_lt}
+use Rattle.std.specs.Prelude.{ℕ, ◌+◌, ◌-◌, Bool, false, cond, not, ◌&&◌, ◌||◌, List, [], ◌∷◌, Some, None, Option, ◌==◌, nat_le, nat_lt}
+use Rattle.std.specs.List.{list_all}
 use Rattle.term.specs.declared.node.Unary.{Unary}
 use Rattle.term.specs.declared.node.Binary.{Binary}
 use Rattle.term.specs.Forms.{binds, binds_last}
@@ -95,8 +96,7 @@ abbrev pub closed : ℕ → Term → Bool
 closed d t = not (any_local leaving d t)
 
 abbrev pub all_closed : ℕ → List Term → Bool
-all_closed d [] = true
-all_closed d (v ∷ vs) = closed d v && all_closed d vs
+all_closed d vs = list_all (closed d) vs
 
 -- the tree without its places: two terms are equal where these are
 abbrev pub bare : Term → Term

@@ -1,9 +1,9 @@
 //! What the walks over a tree make of its locals, and what they ask of them.
-ghost use Rattle.std.proofs.Common.{ap};
+ghost use Rattle.std.proofs.Common.{ap, rules};
 ghost use Rattle.std.specs.Prelude.{◌≡◌, ℕ, ◌*◌, ◌^◌, ◌<◌, ◌≤◌, Bool, map, refl, ⊤};
 ghost use Rattle.term.specs.declared.arena.Arena.{Arena};
 ghost use Rattle.term.specs.State.{cells_in, term, Built, Kept};
-ghost use Rattle.term.specs.Term.{Term, cells, raised, lowered, filled, naming, leaving};
+ghost use Rattle.term.specs.Term.{Term, local, cells, raised, lowered, filled, naming, leaving};
 ghost use Rattle.term.specs.Walk.{AllIn, all_in_kept, terms_kept};
 
 use crate::arena::Arena;
@@ -18,11 +18,15 @@ pub trait Change: Copy {
     // What it puts in is there.
     ghost given: { Self → Arena → Type 0 };
 
-    // Makes that term.
-    fn local(self, arena: &mut Arena, cut: u32, place: usize, number: u64) -> Result<usize, Spent>
+    // Makes the term that stands for a local that points out of the binders over it.
+    fn outward(self, arena: &mut Arena, cut: u32, place: usize, number: u64) -> Result<usize, Spent>
         requires given { given self arena.old }
+        requires out { cut ≤ number }
         requires small { number ≤ cells_in arena.old * 2 ^ 32 }
         ensures { Built arena.old arena.new (cells (changed self arena.old cut place number)) (changed self arena.old cut place number) result };
+
+    // A local that points to one of those binders stays as it is.
+    ghost inward: { (x : Self) (a : Arena) (d p k : ℕ) → k < d → changed x a d p k ≡ local p k };
 
     // Cells that are added later leave it as it is.
     ghost kept: { (x : Self) (a b : Arena) → Kept a b → given x a → given x b × (changed x b ≡ changed x a) };
@@ -37,12 +41,17 @@ impl Change for Lift {
 
     ghost given = { λ x a. ⊤ };
 
+    ghost inward = { Prim.search rules };
+
     ghost kept = { λ x a b k h. (h, refl) };
 
-    fn local(self, arena: &mut Arena, cut: u32, place: usize, number: u64) -> Result<usize, Spent> {
-        if number < u64::from(cut) {
-            return arena.make(Node::Local(place, number));
-        }
+    fn outward(
+        self,
+        arena: &mut Arena,
+        _cut: u32,
+        place: usize,
+        number: u64,
+    ) -> Result<usize, Spent> {
         arena.make(Node::Local(place, number + u64::from(self.0)))
     }
 }
@@ -56,12 +65,17 @@ impl Change for Lower {
 
     ghost given = { λ x a. ⊤ };
 
+    ghost inward = { Prim.search rules };
+
     ghost kept = { λ x a b k h. (h, refl) };
 
-    fn local(self, arena: &mut Arena, cut: u32, place: usize, number: u64) -> Result<usize, Spent> {
-        if number < u64::from(cut) {
-            return arena.make(Node::Local(place, number));
-        }
+    fn outward(
+        self,
+        arena: &mut Arena,
+        _cut: u32,
+        place: usize,
+        number: u64,
+    ) -> Result<usize, Spent> {
         arena.make(Node::Local(place, number.saturating_sub(u64::from(self.0))))
     }
 }
@@ -75,14 +89,19 @@ impl Change for Put<'_> {
 
     ghost given = { λ x a. AllIn a x.0.now };
 
+    ghost inward = { Prim.search rules };
+
     ghost kept = { λ x a b k h. (all_in_kept x.0.now k h, ap filled (terms_kept x.0.now k h)) };
 
     #[tactic(auto, using(crate::proofs::Putting::filled_at, crate::proofs::Putting::filled_past))]
-    fn local(self, arena: &mut Arena, cut: u32, place: usize, number: u64) -> Result<usize, Spent> {
-        let Some(outward) = number.checked_sub(u64::from(cut)) else {
-            return arena.make(Node::Local(place, number));
-        };
-        match self.0.get(outward as usize) {
+    fn outward(
+        self,
+        arena: &mut Arena,
+        cut: u32,
+        place: usize,
+        number: u64,
+    ) -> Result<usize, Spent> {
+        match self.0.get((number - u64::from(cut)) as usize) {
             Some(&arg) => arena.lift(cut, arg),
             None => arena.make(Node::Local(place, number - self.0.len() as u64)),
         }

@@ -34,6 +34,28 @@ fn two_in_order(rt: HostRuntime) -> Result<(), Fail> {
     Ok(())
 }
 
+// Three terms at once: local 3, the first one past them, becomes local 0.
+#[test]
+fn three_in_order(rt: HostRuntime) -> Result<(), Fail> {
+    let mut a = Arena::new(rt.alloc(), 30)?;
+    let zero = a.make(Node::Local(0, 0))?;
+    let one = a.make(Node::Local(0, 1))?;
+    let two = a.make(Node::Local(0, 2))?;
+    let three = a.make(Node::Local(0, 3))?;
+    let sort = a.make(Node::Sort(0, 1))?;
+    let entry = a.make(Node::Entry(0, 4))?;
+    let fun = a.make(Node::One(0, Unary::Fun, zero))?;
+    let first = a.make(Node::Two(0, Binary::Pair, zero, one))?;
+    let last = a.make(Node::Two(0, Binary::Pair, two, three))?;
+    let pairs = a.make(Node::Two(0, Binary::Pair, first, last))?;
+    let got = a.put(&[sort, entry, fun], pairs)?;
+    let want_first = a.make(Node::Two(0, Binary::Pair, sort, entry))?;
+    let want_last = a.make(Node::Two(0, Binary::Pair, fun, zero))?;
+    let want = a.make(Node::Two(0, Binary::Pair, want_first, want_last))?;
+    assert!(rt; a.equal(got, want));
+    Ok(())
+}
+
 // unpack stands over its second part with two binders: local 1 is inside, local 2 points out.
 #[test]
 fn unpack_lifted(rt: HostRuntime) -> Result<(), Fail> {

@@ -1,7 +1,7 @@
 //! Storing what is kept: trees copied down to a mark, compactly and with no sharing.
 ghost use Rattle.std.specs.Prelude.{◌≡◌, ℕ, ◌+◌, ◌-◌, ◌*◌, ◌^◌, ◌<◌, ◌≤◌, true, [], ◌∷◌, ◌++◌};
 ghost use Rattle.term.specs.Cells.{bound, over, MayStandAt};
-ghost use Rattle.term.specs.Layout.{close, lay, shut, Lays, LaysAll, Stores};
+ghost use Rattle.term.specs.Layout.{HasGap, close, lay, shut, Lays, LaysAll, Stores};
 ghost use Rattle.term.specs.State.{term, cells_in};
 ghost use Rattle.term.specs.Term.{cells, closed};
 ghost use Rattle.term.specs.declared.node.Cell.TheVariants.{Part};
@@ -33,7 +33,7 @@ impl Arena {
 
     // A copy of a value, if there is one.
     fn copy_value(&mut self, gap: Gap, value: Option<usize>) -> Result<Option<usize>, Spent>
-        requires below { gap.top ≤ cells_in self.old }
+        requires { HasGap self.old gap }
         ensures { LaysAll self.old self.new gap (bound value (term self.old)) result }
     {
         let Some(id) = value else {
@@ -45,7 +45,7 @@ impl Arena {
     // One cell on the top, which costs 1. Gives the index that it has once the gap is closed, at
     // which its parts are named already.
     fn lay(&mut self, gap: Gap, node: Node) -> Result<usize, Spent>
-        requires below { gap.top ≤ cells_in self.old }
+        requires gap { HasGap self.old gap }
         requires fits { MayStandAt (cells_in self.old) (Part node) }
         ensures { Lays self.old self.new gap (close self.old gap ++ Part node ∷ []) 1 result }
     {
@@ -56,7 +56,7 @@ impl Arena {
 
     // A copy of the tree on the top, with no sharing; it costs its cells.
     fn copy(&mut self, gap: Gap, id: usize) -> Result<usize, Spent>
-        requires below { gap.top ≤ cells_in self.old }
+        requires { HasGap self.old gap }
         ensures { Lays self.old self.new gap (lay (close self.old gap) (term self.old id)) (cells (term self.old id)) result }
     {
         match self.at(id) {

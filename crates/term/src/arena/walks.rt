@@ -41,8 +41,8 @@ impl Arena {
         ensures { Built self.old self.new (cells (walk (C.changed change self.old) cut (term self.old id))) (walk (C.changed change self.old) cut (term self.old id)) result }
     {
         match self.at(id) {
-            leaf @ (Node::Sort(_, _) | Node::Entry(_, _)) => self.make(leaf),
-            Node::Local(p, k) => change.local(self, cut, p, k),
+            Node::Local(p, k) if u64::from(cut) <= k => change.outward(self, cut, p, k),
+            leaf @ (Node::Sort(_, _) | Node::Local(_, _) | Node::Entry(_, _)) => self.make(leaf),
             Node::One(p, form, a) => {
                 let a = self.walk(change, form.binders() + cut, a)?;
                 self.make(Node::One(p, form, a))
