@@ -66,7 +66,8 @@ const SINGLE_SYMBOLS: [Spelling; 8] = [
     (b"|", Kind::Fixed(Mark::Bar)),
 ];
 
-// What a word is, if the table has it.
+// What a word is, if the table has it. Inlined, so that the table is known in the loop.
+#[inline(always)]
 fn spelt(table: &[Spelling], w: &[u8]) -> Option<Kind>
     ensures { result ≡ spelt (rows table.now) w.now }
 {
@@ -88,7 +89,8 @@ pub fn reserved_word(w: &[u8]) -> Option<Kind>
         .or_else(|| spelt(&FIRST_WORDS, w))
 }
 
-// The first symbol of the table that the bytes begin with.
+// The first symbol of the table that the bytes begin with. Inlined, as `spelt` is.
+#[inline(always)]
 fn symbol(table: &[Spelling], rest: &[u8]) -> Option<Piece>
     ensures { result ≡ symbol (rows table.now) rest.now }
 {

@@ -4,7 +4,7 @@ use Rattle.script.proofs.Counts.{Counting}
 use Rattle.script.proofs.reader.Reader.count_rest.Given as goal
 
 abbrev pub invariant-loop-lexeme : goal.invariant-loop-lexeme
-invariant-loop-lexeme l = Counting (script l.initial.self) l.initial.self.at l.initial.tally (script l.self) l.self.at l.tally
+invariant-loop-lexeme l = Counting l.initial.tally l.initial.self l.self l.tally
 
 abbrev pub decreases-loop-lexeme : goal.decreases-loop-lexeme
 decreases-loop-lexeme l = length (script l.self) - l.self.at
