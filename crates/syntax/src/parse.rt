@@ -396,6 +396,7 @@ impl Parser<'_> {
     }
 
     // prod under the binder x
+    // Stays: apart from `under`, since a step passed in would be an `FnOnce(&mut Self)`, a bound that the check cannot state.
     #[cycle(parse)]
     fn prods_under(&mut self, x: Span) -> Result<usize, SyntaxFault>
         requires { HasRoomForNames 1 (now self.old) }

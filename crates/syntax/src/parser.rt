@@ -47,6 +47,8 @@ impl Parser<'_> {
     ghost use Rattle.syntax.specs.Look.{left};
     ghost use Rattle.syntax.specs.Parses.{now, OpensBinder, Adds, HoldsSame, HasRoomForCell, HasRoomForNames, Means};
 
+    // Stays: `here`, `begins` and `misfit` beside those of the words, since a method with `&mut self` cannot yet lend a field by `&` where the struct has an invariant.
+
     // The place of the next word, or the statement's end.
     pub(crate) fn here(&self) -> usize
         ensures { result ≡ here self.now.words.end (left self.now.words) }

@@ -40,8 +40,8 @@ impl From<ScriptFault> for ReadFault {
 
     ghost from_gives = { λ fault r. r ≡ Tokens fault };
 
-    fn from(fault: ScriptFault) -> ReadFault {
-        ReadFault::Tokens(fault)
+    fn from(refused: ScriptFault) -> ReadFault {
+        ReadFault::Tokens(refused)
     }
 }
 
@@ -50,8 +50,8 @@ impl From<SyntaxFault> for ReadFault {
 
     ghost from_gives = { λ fault r. r ≡ Syntax fault };
 
-    fn from(fault: SyntaxFault) -> ReadFault {
-        ReadFault::Syntax(fault)
+    fn from(refused: SyntaxFault) -> ReadFault {
+        ReadFault::Syntax(refused)
     }
 }
 

@@ -123,8 +123,8 @@ impl<'a> Ahead<'a> {
         self.next.is_none()
     }
 
-    /// That the next word does not fit.
-    pub fn misfit(&self) -> SyntaxFault
+    // That the next word does not fit.
+    pub(crate) fn misfit(&self) -> SyntaxFault
         ensures { result ≡ SyntaxFault.Misfit (here self.now.end (left self.now)) }
     {
         SyntaxFault::Misfit(self.here())
