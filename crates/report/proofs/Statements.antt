@@ -9,7 +9,7 @@ use Rattle.report.specs.declared.reprint.Reprint.{Reprint}
 use Rattle.report.specs.Lines.{Appended, line}
 use Rattle.report.specs.Told.{TellsOne, TellsAll, IsTooLong, too_long}
 use Rattle.report.specs.Outline.{Outlines, all_lines, outline}
-use Rattle.report.specs.Reprint.{Reprints, FourLinesEach, AllFourLines}
+use Rattle.report.specs.Reprint.{Reprints, ReprintsFrom, IsReprint, Ready, Begins}
 
 module _ {T : Type 0} (tells : T → ℕ → Statement → List ℕ → T → Type 0) where
   -- with what is told of these statements, what was told is the whole
@@ -51,10 +51,14 @@ outlined items s o (Ok v) e long all =
     choose (nat_lt 1000000 (length s)) s _ _ (items v) refl long (λ h. outlines_all o 1 (statements_from s 0) (items v) (all h) ∙ ap (λ y. all_lines 1 y (statements_from s 0)) e)
 outlined items s o (Err x) e long all = tt
 
-reprints_all : (r : Reprint) (n : ℕ) (sts : List Statement) (text : List ℕ) → TellsAll Reprints r n sts text → FourLinesEach n sts text
-reprints_all r n [] text h = h
-reprints_all r n (st ∷ sts) text (here, rest, after, one, more, e) = (here, rest, one, reprints_all after (n + 1) sts rest more, e)
+reprints_all : (r : Reprint) (n : ℕ) (sts : List Statement) (text : List ℕ) → Ready r → TellsAll Reprints r n sts text → ReprintsFrom r.script.now r.entries.items n sts text
+reprints_all r n [] text k h = h
+reprints_all r n (st ∷ sts) text k (here, rest, after, one, more, e) =
+    let told = one k in
+    (here, rest, after.entries.items, told.2, subst (λ s. ReprintsFrom s after.entries.items (n + 1) sts rest) told.1 (reprints_all after (n + 1) sts rest told.0 more), e)
 
-pub reprinted : {V E : Type 0} (items : V → List ℕ) (s : List ℕ) (t : Reprint) (r : Result V E) → IfOk r (λ v. TellsAll Reprints t 1 (statements_from s 0) (items v)) → IfOk r (λ v. AllFourLines s (items v))
-reprinted items s t (Ok v) all = reprints_all t 1 (statements_from s 0) (items v) all
-reprinted items s t (Err x) all = tt
+pub reprinted : {V E : Type 0} (items : V → List ℕ) (s : List ℕ) (t : Reprint) (r : Result V E) → Begins s t → IfOk r (λ v. TellsAll Reprints t 1 (statements_from s 0) (items v)) → IfOk r (λ v. IsReprint s (items v))
+reprinted items s t (Ok v) b all =
+    let told = reprints_all t 1 (statements_from s 0) (items v) b.ready all in
+    subst (λ es. ReprintsFrom s es 1 (statements_from s 0) (items v)) b.entries (subst (λ y. ReprintsFrom y t.entries.items 1 (statements_from s 0) (items v)) b.script told)
+reprinted items s t (Err x) b all = tt

@@ -1,4 +1,5 @@
 pub mod Lines
+pub mod Refusal
 pub mod Told
 pub mod Outline
 pub mod Reprint

@@ -1,7 +1,5 @@
 //! A refusal as it is told.
-ghost use Rattle.std.specs.Prelude.{◌≡◌, Some};
-ghost use Rattle.script.specs.Faults.{fault_number, fault_place};
-ghost use Rattle.syntax.specs.Reads as reads;
+ghost use Rattle.std.specs.Prelude.{◌≡◌};
 
 use script::statement::ScriptFault;
 use syntax::read::ReadFault;
@@ -14,7 +12,9 @@ pub(crate) struct Refusal {
 }
 
 impl From<ScriptFault> for Refusal {
-    ghost from_gives = { λ f r. (r.number ≡ fault_number f) × (r.place ≡ Some (fault_place f)) };
+    ghost use Rattle.report.specs.Refusal.{of_tokens};
+
+    ghost from_gives = { λ fault refusal. refusal ≡ of_tokens fault };
 
     fn from(fault: ScriptFault) -> Refusal {
         Refusal {
@@ -25,7 +25,9 @@ impl From<ScriptFault> for Refusal {
 }
 
 impl From<ReadFault> for Refusal {
-    ghost from_gives = { λ f r. (r.number ≡ reads.fault_number f) × (r.place ≡ reads.fault_at f) };
+    ghost use Rattle.report.specs.Refusal.{of_reading};
+
+    ghost from_gives = { λ fault refusal. refusal ≡ of_reading fault };
 
     fn from(fault: ReadFault) -> Refusal {
         Refusal {

@@ -1,7 +1,8 @@
 //! The reprint of a script: each statement's term as it was read, in its canonical text.
-ghost use Rattle.std.specs.Prelude.{◌<◌, ◌≤◌, length, IfOk};
+ghost use Rattle.std.specs.Prelude.{◌≡◌, ◌<◌, ◌≤◌, length, IfOk, OnOk, vec_len, codes};
+ghost use Rattle.report.specs.Lines.{Appended, line};
 ghost use Rattle.report.specs.Told.{IsTooLong};
-ghost use Rattle.report.specs.Reprint.{AllFourLines};
+ghost use Rattle.report.specs.Reprint.{IsReprint, Cleared};
 
 use crate::lines::Lines;
 use crate::refusal::Refusal;
@@ -30,21 +31,44 @@ struct Reprint<'a> {
     page: Vec<u8>,
 }
 
+// An arena with no budget: what is read is not paid for.
+fn cleared(heap: Global) -> Result<Arena, AllocError>
+    ensures { IfOk result Cleared }
+{
+    let Ok(mut arena) = Arena::new(heap, CELLS) else {
+        return Err(AllocError)
+    };
+    let _ = arena.allot(0);
+    Ok(arena)
+}
+
+// A page of so many bytes. A function of its own, so that no proof counts them.
+fn blank(heap: Global, length: usize) -> Result<Vec<u8>, AllocError>
+    ensures { IfOk result (λ page. vec_len page ≡ length) }
+{
+    vec![in heap; 0u8; length]
+}
+
 impl<'a> Reprint<'a> {
-    fn new(heap: Global, script: &'a [u8]) -> Result<Reprint<'a>, AllocError> {
-        let mut arena = Arena::new(heap, CELLS).map_err(|_| AllocError)?;
-        let _ = arena.allot(0);
+    ghost use Rattle.report.specs.Reprint.{Begins, SameButPage, Accepts, fitting, text_at};
+
+    fn new(heap: Global, script: &'a [u8]) -> Result<Reprint<'a>, AllocError>
+        ensures { IfOk result (Begins script.now) }
+    {
         Ok(Reprint {
             script,
             entries: Vec::new(heap),
             scope: Scope::new(heap)?,
-            arena,
-            page: vec![in heap; 0u8; TEXT_BYTES]?,
+            arena: cleared(heap)?,
+            page: blank(heap, TEXT_BYTES)?,
         })
     }
 
-    // The text of the tree, or a dash if the page is too small for it.
-    fn term(&mut self, id: usize) -> &[u8] {
+    // The line of the tree's text, or of a dash if the page is too small for it.
+    fn term_line(&mut self, lines: &mut Lines, id: usize) -> Result<(), AllocError>
+        ensures told { OnOk result (Appended lines.old.bytes.items (line (codes "term=") (fitting (vec_len self.old.page) (text_at self.old id))) lines.new.bytes.items) }
+        ensures rest { SameButPage self.old self.new }
+    {
         match print(
             &self.arena,
             id,
@@ -52,9 +76,22 @@ impl<'a> Reprint<'a> {
             self.script,
             self.page.as_mut_slice(),
         ) {
-            Ok(n) => &self.page[..n],
-            Err(_) => b"-",
+            Ok(n) => lines.text(b"term=", &self.page.as_slice()[..n]),
+            Err(_) => lines.text(b"term=", b"-"),
         }
+    }
+
+    // The lines of a tree that was read; the name of a def or an axiom becomes an entry.
+    fn accept(&mut self, lines: &mut Lines, id: usize, name: Option<Span>) -> Result<(), AllocError>
+        ensures { OnOk result (Accepts self.old self.new id name lines.old.bytes.items lines.new.bytes.items) }
+    {
+        lines.answer(b"at=", None)?;
+        self.term_line(lines, id)?;
+        self.arena.rewind(0);
+        if let Some(name) = name {
+            self.entries.push(name)?;
+        }
+        Ok(())
     }
 }
 
@@ -63,7 +100,6 @@ impl Teller for Reprint<'_> {
 
     ghost tells = { Reprints };
 
-    // The name of a def or an axiom that is read becomes an entry.
     fn tell(&mut self, lines: &mut Lines, number: usize, st: &Statement) -> Result<(), AllocError> {
         lines.number(b"statement=", number)?;
         match read_statement(
@@ -73,15 +109,7 @@ impl Teller for Reprint<'_> {
             &mut self.scope,
             &mut self.arena,
         ) {
-            Ok(sentence) => {
-                lines.answer(b"at=", None)?;
-                lines.text(b"term=", self.term(sentence.term))?;
-                if let Some(name) = st.name {
-                    self.entries.push(name)?;
-                }
-                self.arena.rewind(0);
-                Ok(())
-            }
+            Ok(sentence) => self.accept(lines, sentence.term, st.name),
             Err(fault) => {
                 lines.answer(b"at=", Some(Refusal::from(fault)))?;
                 lines.text(b"term=", b"-")
@@ -93,7 +121,7 @@ impl Teller for Reprint<'_> {
 /// The lines of all statements, in their order, or the one line of a script that is too long.
 pub fn reprint_text(heap: Global, script: &[u8]) -> Result<Vec<u8>, AllocError>
     ensures long { 1000000 < length script.now → IfOk result (λ v. IsTooLong v.items) }
-    ensures all { length script.now ≤ 1000000 → IfOk result (λ v. AllFourLines script.now v.items) }
+    ensures all { length script.now ≤ 1000000 → IfOk result (λ v. IsReprint script.now v.items) }
 {
     told(heap, script, Reprint::new(heap, script)?)
 }
