@@ -29,7 +29,7 @@ use Rattle.normal.proofs.Steps as steps
 use Rattle.kernel.specs.declared.fault.Fault.{Fault}
 use Rattle.kernel.specs.declared.fault.Fault.TheVariants.{Spent, Refused}
 use Rattle.kernel.specs.Faults.{typing, passed, faulted}
-use Rattle.kernel.specs.Runs.{outcome, Judges, Ran, Leading, Leads, Begins, pair, tips, sorted, none as none_of, unruled as unruled_at, meets_side}
+use Rattle.kernel.specs.Runs.{outcome, Judges, Ran, Leading, Leads, Infers, Begins, pair, tips, sorted, none as none_of, unruled as unruled_at, meets_side}
 
 err_within : {A E : Type 0} (Q : E → Type 0) (P : A → Type 0) (r : Result A E) → IsErrAnd r Q → IfOk r P
 err_within Q P (Ok a) q = elim q [ ]
@@ -39,6 +39,10 @@ err_within Q P (Err e) q = tt
 pub same_fault : (h : Halt) → faulted (passed h) ≡ halted h
 same_fault jam.Spent = refl
 same_fault (jam.Stuck p) = refl
+
+-- what `ok_or` says where there is nothing
+unfound : {A : Type 0} {o : Option A} {e f : Fault} → o ≡ None → ◌≡◌ {A = Result A Fault} (Err e) (ok_or o f) → e ≡ f
+unfound {A} {o} {e} {f} p q = let h : ◌≡◌ {A = Result A Fault} (Err e) (Err f) = q ∙ ap (λ m. ok_or m f) p in cc
 
 module _ {S : System} {R : List Entry} {w : Spot} where
   stops : {j : Judgement} {k : Term → Premises} {b e : ℕ} (f : Fault) → Ends S R j (faulted f) b e → Goes S R w (premise j k) (faulted f) b e
@@ -236,17 +240,17 @@ module _ {S : System} {R : List Entry} {w : Spot} where
   pub refused : {c : Reason} {x : Arena} {f : Fault} → f ≡ Refused (refusal c w) → Ran S R w (refuse c) x x (Err f)
   refused {x = x} q = record { kept = still x; fair = omega arith; falls = omega arith; within = tt; went = rw q (steps.refuses refl) }
 
-  -- the same where `?` has passed it on
-  pub refused_out : {c : Reason} {x : Arena} {f : Fault} {r : Result ℕ Fault} → IsErrAnd r (λ e. e ≡ f) → f ≡ Refused (refusal c w) → Ran S R w (refuse c) x x r
-  refused_out {r = Ok i} q e = elim q [ ]
-  refused_out {r = Err g} q e = refused (q ∙ e)
+  -- the same where `ok_or` makes the fault and `?` passes it on
+  pub refused_out : {A : Type 0} {o : Option A} {c : Reason} {x : Arena} {e f : Fault} {r : Result ℕ Fault} → IsErrAnd r (λ g. g ≡ e) → o ≡ None → ◌≡◌ {A = Result A Fault} (Err e) (ok_or o f) → f ≡ Refused (refusal c w) → Ran S R w (refuse c) x x r
+  refused_out {r = Ok i} q n v p = elim q [ ]
+  refused_out {r = Err g} q n v p = refused (q ∙ unfound n v ∙ p)
 
-  pub answered : {q : Question} {k : ℕ → Premises} {s : ℕ} {x z : Arena} {r : Result ℕ Fault} → S q ≡ Some s → Ran S R w (k s) x z r → Ran S R w (ask q k) x z r
-  answered e d = record { kept = d.kept; fair = d.fair; falls = d.falls; within = d.within; went = steps.told e d.went }
+  pub answered : {o : Option ℕ} {q : Question} {k : ℕ → Premises} {s : ℕ} {x z : Arena} {r : Result ℕ Fault} → S q ≡ o → o ≡ Some s → Ran S R w (k s) x z r → Ran S R w (ask q k) x z r
+  answered e n d = record { kept = d.kept; fair = d.fair; falls = d.falls; within = d.within; went = steps.told (e ∙ n) d.went }
 
-  pub unanswered : {q : Question} {k : ℕ → Premises} {x : Arena} {f : Fault} {r : Result ℕ Fault} → S q ≡ None → IsErrAnd r (λ e. e ≡ f) → f ≡ Refused (refusal NoSort w) → Ran S R w (ask q k) x x r
-  unanswered {r = Ok i} e p q = elim p [ ]
-  unanswered {x = x} {r = Err g} e p q = record { kept = still x; fair = omega arith; falls = omega arith; within = tt; went = rw (p, q) (steps.untold e refl) }
+  pub unanswered : {o : Option ℕ} {q : Question} {k : ℕ → Premises} {x : Arena} {e f : Fault} {r : Result ℕ Fault} → S q ≡ o → IsErrAnd r (λ g. g ≡ e) → o ≡ None → ◌≡◌ {A = Result ℕ Fault} (Err e) (ok_or o f) → f ≡ Refused (refusal NoSort w) → Ran S R w (ask q k) x x r
+  unanswered {r = Ok i} a q n v p = elim q [ ]
+  unanswered {x = x} {r = Err g} a q n v p = record { kept = still x; fair = omega arith; falls = omega arith; within = tt; went = rw (q ∙ unfound n v ∙ p) (steps.untold (a ∙ n) refl) }
 
   pub alike : {t u : Term} {c : Premises} {x z : Arena} {r : Result ℕ Fault} → bare t ≡ bare u → Ran S R w c x z r → Ran S R w (same t u c) x z r
   alike e d = record { kept = d.kept; fair = d.fair; falls = d.falls; within = d.within; went = steps.alike e d.went }
@@ -264,10 +268,6 @@ module _ {S : System} {R : List Entry} {w : Spot} where
   -- the only premises that a rule can be
   pub only : {c d : Premises} {x z : Arena} {r : Result ℕ Fault} → ◌≡◌ {A = Option Premises} (Some d) (Some c) → Ran S R w d x z r → Ran S R w c x z r
   only {c} {d} {x} {z} {r} q h = subst (λ a. Ran S R w a x z r) (let e : d ≡ c = cc in e) h
-
--- what `ok_or` says where there is nothing
-pub unfound : {A : Type 0} {o : Option A} {e f : Fault} → o ≡ None → ◌≡◌ {A = Result A Fault} (Err e) (ok_or o f) → e ≡ f
-unfound {A} {o} {e} {f} p q = let h : ◌≡◌ {A = Result A Fault} (Err e) (Err f) = q ∙ ap (λ m. ok_or m f) p in cc
 
 -- t is s under the binders of Γ, in the same system
 pub record Nested (S S' : System) (s t : Site) (y : Arena) (Γ : List Bound) : Type 0 where
@@ -310,6 +310,14 @@ module _ {A X : Type 0} {v : A → X} {tip : A → ℕ} {z : Arena} {r : Result 
 
   pub inner : {Y : Type 0} {S S' : System} {s t : Site} {Γ Γ' : List Bound} {E E' : Y} {x u : Arena} (F : List Bound → Y → (X → Premises) → Premises) → Nested S S' s t u Γ' → Γ' ≡ Γ → E' ≡ E → Kept x u → Within s x → Begins S' t (λ Δ. F Δ E') v tip u z r → Leads S (entries_at s x) (typing s.place) (F Γ E) v tip u z r
   inner {E' = E'} F n q e k h d = earlier k h (ap₂ F q e) (beneath (λ Δ. F Δ E') n d)
+
+  -- said of a part under one binder
+  pub inner_part : {S S' : System} {s t : Site} {B B' : Bound} {x y u : Arena} (F : List Bound → Term → (X → Premises) → Premises) (i : ℕ) → S' ≡ S → B ≡ B' → Kept x y → Within s x → i < cells_in x → Enters s B y u (Ok t) → Begins S' t (λ Δ. F Δ (term u i)) v tip u z r → Leads S (entries_at s x) (typing s.place) (F (B' ∷ context_at s x) (term x i)) v tip u z r
+  inner_part F i q e k h l n d = let m = on_to k n.kept in inner F (nested q n) (outside e k h) (m.trees i l) m h d
+
+-- a type that was inferred under one binder
+pub inner_type : {S S' : System} {s t : Site} {B B' : Bound} {x y u z : Arena} {r : Result ℕ Fault} (i : ℕ) → S' ≡ S → B ≡ B' → Kept x y → Within s x → i < cells_in x → Enters s B y u (Ok t) → Infers S' t (λ Δ. has Δ (term u i)) u z r → Leads S (entries_at s x) (typing s.place) (premise (has (B' ∷ context_at s x) (term x i))) (term z) suc u z r
+inner_type i q e k h l n d = inner_part (λ Γ E. premise (has Γ E)) i q e k h l n (premised d)
 
 -- a normal form as a first premise, later
 pub form_again : {S : System} {s : Site} {w : Spot} {x y z : Arena} {j : ℕ} (i : ℕ) → Kept x y → Within s x → i < cells_in x → n.Normalises s (term y i) y z (Ok j) → Leads S (entries_at s x) w (premise (gives s.place (bindings (context_at s x)) (term x i))) (term z) suc y z (Ok j)

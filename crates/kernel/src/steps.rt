@@ -25,7 +25,7 @@ pub(crate) fn as_sort(arena: &Arena, id: usize) -> Option<u16>
     ensures { result ≡ as_sort (term arena.now id) }
 {
     match arena.at(id) {
-        Node::Sort(_, s) => Some(s),
+        Node::Sort(_, sort) => Some(sort),
         _ => None,
     }
 }
@@ -35,8 +35,8 @@ pub(crate) fn unruled(arena: &Arena, id: usize) -> Option<usize>
     ensures { result ≡ unruled (term arena.now id) }
 {
     match arena.at(id) {
-        Node::One(p, Unary::Fun | Unary::Inl | Unary::Inr, _)
-        | Node::Two(p, Binary::Pair | Binary::Pack, _, _) => Some(p),
+        Node::One(place, Unary::Fun | Unary::Inl | Unary::Inr, _)
+        | Node::Two(place, Binary::Pair | Binary::Pack, _, _) => Some(place),
         _ => None,
     }
 }
@@ -63,7 +63,7 @@ impl<'a, S: SortSystem> Typing<'a, S> {
         requires kind { kind < cells_in arena.old }
         requires value { over value ≤ cells_in arena.old }
         ensures site { Enters self.now.site (record { type = term arena.old kind; value = bound value (term arena.old) }) arena.old arena.new (result_map_both (λ t. t.site) (λ e. e) result) }
-        ensures system { IfOk result (λ t. t.system ≡ self.now.system) }
+        ensures system { IfOk result (λ t. S.SortSystem.answers t.system.now ≡ S.SortSystem.answers self.now.system.now) }
     {
         let site = self.site.enter(arena, Some(kind), value)?;
         Ok(Typing {

@@ -24,6 +24,7 @@ pub struct Typing<'a, S> {
     pub system: &'a S,
 }
 
+// Stays: the parts of a term are indices of a fixed arena, so each contract says they are there.
 impl<'a, S: SortSystem> Typing<'a, S> {
     // The type that a term has.
     #[cycle(typing)]
@@ -37,12 +38,12 @@ impl<'a, S: SortSystem> Typing<'a, S> {
         }
         arena.spend(1)?;
         match arena.at(id) {
-            Node::Sort(p, s) => self.at(p).answered(arena, self.system.above(s)),
-            Node::Local(p, k) => self.at(p).local(arena, k),
-            Node::Entry(p, j) => self.at(p).entry(arena, j),
-            Node::One(p, form, a) => self.at(p).one(arena, form, a),
-            Node::Two(p, form, a, b) => self.at(p).two(arena, form, a, b),
-            Node::Match(p, a, f, g) => self.at(p).choose(arena, a, f, g),
+            Node::Sort(place, sort) => self.at(place).answered(arena, self.system.above(sort)),
+            Node::Local(place, k) => self.at(place).local(arena, k),
+            Node::Entry(place, j) => self.at(place).entry(arena, j),
+            Node::One(place, form, a) => self.at(place).one(arena, form, a),
+            Node::Two(place, form, a, b) => self.at(place).two(arena, form, a, b),
+            Node::Match(place, a, f, g) => self.at(place).choose(arena, a, f, g),
         }
     }
 
@@ -56,15 +57,16 @@ impl<'a, S: SortSystem> Typing<'a, S> {
     {
         arena.spend(1)?;
         match arena.at(id) {
-            Node::One(p, form, a) => self.at(p).meet_one(arena, id, form, a, want),
-            Node::Two(p, form, a, b) => self.at(p).meet_two(arena, id, form, a, b, want),
-            Node::Sort(p, _) | Node::Local(p, _) | Node::Entry(p, _) | Node::Match(p, _, _, _) => {
-                self.at(p).equal(arena, id, want)
-            }
+            Node::One(place, form, a) => self.at(place).meet_one(arena, id, form, a, want),
+            Node::Two(place, form, a, b) => self.at(place).meet_two(arena, id, form, a, b, want),
+            Node::Sort(place, _)
+            | Node::Local(place, _)
+            | Node::Entry(place, _)
+            | Node::Match(place, _, _, _) => { self.at(place).equal(arena, id, want) }
         }
     }
 
-    // The sort that a term has, which must be one.
+    // The sort that is the type of a term.
     #[cycle(typing)]
     pub(crate) fn sort(&self, arena: &mut Arena, id: usize) -> Result<u16, Fault>
         requires here { Within self.now.site arena.old }
@@ -144,11 +146,11 @@ impl<'a, S: SortSystem> Typing<'a, S> {
         requires paid { Paid arena.old }
         ensures { Applies (S.SortSystem.answers self.now.system.now) self.now.site (λ es p Γ. has_former p Γ (term arena.old a) (term arena.old b)) arena.old arena.new result }
     {
-        let s = self.sort(arena, a)?;
+        let domain_sort = self.sort(arena, a)?;
         let domain = self.site.norm(arena, a)?;
         let inner = self.under(arena, domain, None)?;
-        let t = inner.sort(arena, b)?;
-        self.answered(arena, self.system.join(s, t))
+        let body_sort = inner.sort(arena, b)?;
+        self.answered(arena, self.system.join(domain_sort, body_sort))
     }
 
     // A sum.
@@ -160,9 +162,9 @@ impl<'a, S: SortSystem> Typing<'a, S> {
         requires paid { Paid arena.old }
         ensures { Applies (S.SortSystem.answers self.now.system.now) self.now.site (λ es p Γ. has_sum p Γ (term arena.old a) (term arena.old b)) arena.old arena.new result }
     {
-        let s = self.sort(arena, a)?;
-        let t = self.sort(arena, b)?;
-        self.answered(arena, self.system.join(s, t))
+        let left = self.sort(arena, a)?;
+        let right = self.sort(arena, b)?;
+        self.answered(arena, self.system.join(left, right))
     }
 
     // A typed function.

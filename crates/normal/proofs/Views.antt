@@ -1,16 +1,16 @@
 -- What indices stand for stays as it was while cells are added.
 use Rattle.std.specs.List.{HoldsAt}
 use Rattle.std.specs.Option.{option_copied}
-use Rattle.std.proofs.Common.{◌≡◌, ℕ, zero, suc, ◌<◌, ◌≤◌, List, [], ◌∷◌, length, get_or, IfSome, MatchOption, Some, None, Ok, Bor, Option, refl, ap, ap₂, arith}
+use Rattle.std.proofs.Common.{◌≡◌, ℕ, zero, suc, ◌<◌, ◌≤◌, List, [], ◌∷◌, length, get_or, IfSome, MatchOption, Some, None, Bor, Option, refl, ap, ap₂, arith}
 use Rattle.term.specs.declared.arena.Arena.{Arena}
 use Rattle.term.specs.declared.node.Stored.{Stored}
 use Rattle.term.specs.Term.{Term}
-use Rattle.term.specs.Cells.{Bound, bindings, over}
+use Rattle.term.specs.Cells.{bindings, over}
 use Rattle.term.specs.State.{cells_in, Kept}
 use Rattle.term.proofs.States.{bound_kept}
 use Rattle.rules.specs.Rules.{Entry}
 use Rattle.normal.specs.declared.site.Site.{Site}
-use Rattle.normal.specs.Views.{rows, top, Listed, binding, Within, Enters}
+use Rattle.normal.specs.Views.{rows, top, Listed, binding, Within}
 
 as_row : {t u : Term} {v w : Option Term} → t ≡ u → v ≡ w → ◌≡◌ {A = Entry} (record { type = t; value = v }) (record { type = u; value = w })
 as_row p q = cc
@@ -39,9 +39,6 @@ pub listed : (es : List Stored) (j : ℕ) (r : Option (Bor Stored)) → IfSome r
 listed es j None p q = unlisted es j q
 listed es j (Some x) p q = rw p (listed_at es j x.now q.0)
 
--- a site stands in the arena as cells are added, and so does one that was stepped into
+-- a site stands in the arena as cells are added
 pub within_kept : {s : Site} {a b : Arena} → Kept a b → Within s a → Within s b
 within_kept k h = record { rows = omega (arith, k.long, h.rows); ctx = omega (arith, k.long, h.ctx) }
-
-pub within_inner : {s t : Site} {B : Bound} {a b : Arena} → Enters s B a b (Ok t) → Within s a → Within t b
-within_inner e h = record { rows = rw e.made.0.entries (omega (arith, e.kept.long, h.rows)); ctx = e.made.0.low }

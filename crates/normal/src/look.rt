@@ -37,6 +37,7 @@ impl Side {
 }
 
 // The part of a term, if it has that form.
+// Stays: `part` and `parts` are two shapes of a node; one function would need a trait of shapes.
 pub fn part(arena: &Arena, form: Unary, id: usize) -> Option<usize>
     ensures { Part arena.now form id result }
 {

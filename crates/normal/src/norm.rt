@@ -1,6 +1,6 @@
 //! The rules of normal forms, a function for each: what is left of the budget falls at each use.
 ghost use Rattle.std.specs.Prelude.{◌≡◌, ℕ, suc, ◌+◌, ◌-◌, ◌*◌, ◌^◌, ◌<◌, ◌≤◌, All, map};
-ghost use Rattle.term.specs.Cells.{form, reach, high, over};
+ghost use Rattle.term.specs.Cells.{reach, high, over};
 ghost use Rattle.term.specs.State.{term, cells_in};
 ghost use Rattle.rules.specs.Rules.{gives_local, gives_entry, gives_fun, gives_under, gives_beside, gives_wrap};
 ghost use Rattle.rules.specs.Rules.{gives_filled, gives_use, gives_app, gives_let};
@@ -12,6 +12,7 @@ use crate::site::Site;
 use term::arena::Arena;
 use term::node::{Binary, Node, Unary};
 
+// Stays: the parts of a term are indices of a fixed arena, so each contract says they are there.
 impl<'a> Site<'a> {
     ghost use Rattle.normal.specs.Views.{Within, Paid, gives_side};
     ghost use Rattle.normal.specs.Runs.{Normalises, Applies, Keeps};
@@ -63,8 +64,8 @@ impl<'a> Site<'a> {
         match arena.at(id) {
             Node::Local(_, k) => self.local(arena, k, id),
             Node::Entry(_, j) => self.shared(arena, j, id),
-            Node::One(_, op, a) => self.one(arena, op, a),
-            Node::Two(_, op, a, b) => self.two(arena, op, a, b),
+            Node::One(_, form, a) => self.one(arena, form, a),
+            Node::Two(_, form, a, b) => self.two(arena, form, a, b),
             Node::Match(_, a, f, g) => self.choose(arena, a, f, g),
             Node::Sort(_, _) => Ok(id),
         }
@@ -72,34 +73,34 @@ impl<'a> Site<'a> {
 
     // A unary form.
     #[cycle(norm)]
-    fn one(&self, arena: &mut Arena, op: Unary, a: usize) -> Result<usize, Halt>
+    fn one(&self, arena: &mut Arena, form: Unary, a: usize) -> Result<usize, Halt>
         requires here { Within self.now arena.old }
         requires a { a < cells_in arena.old }
         requires paid { Paid arena.old }
-        ensures { Applies self.now (λ es p Δ. gives_one es p Δ op (term arena.old a)) arena.old arena.new result }
+        ensures { Applies self.now (λ es p Δ. gives_one es p Δ form (term arena.old a)) arena.old arena.new result }
     {
-        match op {
+        match form {
             Unary::Fun => self.fun(arena, a),
             Unary::Fst => self.projection(arena, Side::First, a),
             Unary::Snd => self.projection(arena, Side::Second, a),
-            Unary::Inl | Unary::Inr => self.wrap(arena, op, a),
+            Unary::Inl | Unary::Inr => self.wrap(arena, form, a),
         }
     }
 
     // A binary form.
     #[cycle(norm)]
-    fn two(&self, arena: &mut Arena, op: Binary, a: usize, b: usize) -> Result<usize, Halt>
+    fn two(&self, arena: &mut Arena, form: Binary, a: usize, b: usize) -> Result<usize, Halt>
         requires here { Within self.now arena.old }
         requires a { a < cells_in arena.old }
         requires b { b < cells_in arena.old }
         requires paid { Paid arena.old }
-        ensures { Applies self.now (λ es p Δ. gives_two es p Δ op (term arena.old a) (term arena.old b)) arena.old arena.new result }
+        ensures { Applies self.now (λ es p Δ. gives_two es p Δ form (term arena.old a) (term arena.old b)) arena.old arena.new result }
     {
-        match op {
-            Binary::Pi | Binary::Sigma | Binary::Exists => self.under(arena, op, a, b),
+        match form {
+            Binary::Pi | Binary::Sigma | Binary::Exists => self.under(arena, form, a, b),
             Binary::Typed => self.fun(arena, b),
             Binary::App => self.app(arena, a, b),
-            Binary::Pair | Binary::Pack | Binary::Sum => self.beside(arena, op, a, b),
+            Binary::Pair | Binary::Pack | Binary::Sum => self.beside(arena, form, a, b),
             Binary::Ascribe => self.norm(arena, a),
             Binary::Let => self.bind(arena, a, b),
             Binary::Unpack => self.unpack(arena, a, b),
@@ -121,43 +122,43 @@ impl<'a> Site<'a> {
 
     // A type with a binder: both parts.
     #[cycle(norm)]
-    fn under(&self, arena: &mut Arena, op: Binary, a: usize, b: usize) -> Result<usize, Halt>
+    fn under(&self, arena: &mut Arena, form: Binary, a: usize, b: usize) -> Result<usize, Halt>
         requires here { Within self.now arena.old }
         requires a { a < cells_in arena.old }
         requires b { b < cells_in arena.old }
         requires paid { Paid arena.old }
-        ensures { Applies self.now (λ es p Δ. gives_under p Δ op (term arena.old a) (term arena.old b)) arena.old arena.new result }
+        ensures { Applies self.now (λ es p Δ. gives_under p Δ form (term arena.old a) (term arena.old b)) arena.old arena.new result }
     {
         let domain = self.norm(arena, a)?;
         let inner = self.inside(arena)?;
         let body = inner.norm(arena, b)?;
-        Ok(arena.add(Node::Two(self.place, op, domain, body)))
+        Ok(arena.add(Node::Two(self.place, form, domain, body)))
     }
 
     // Two parts with no binder.
     #[cycle(norm)]
-    fn beside(&self, arena: &mut Arena, op: Binary, a: usize, b: usize) -> Result<usize, Halt>
+    fn beside(&self, arena: &mut Arena, form: Binary, a: usize, b: usize) -> Result<usize, Halt>
         requires here { Within self.now arena.old }
         requires a { a < cells_in arena.old }
         requires b { b < cells_in arena.old }
         requires paid { Paid arena.old }
-        ensures { Applies self.now (λ es p Δ. gives_beside p Δ op (term arena.old a) (term arena.old b)) arena.old arena.new result }
+        ensures { Applies self.now (λ es p Δ. gives_beside p Δ form (term arena.old a) (term arena.old b)) arena.old arena.new result }
     {
         let first = self.norm(arena, a)?;
         let second = self.norm(arena, b)?;
-        Ok(arena.add(Node::Two(self.place, op, first, second)))
+        Ok(arena.add(Node::Two(self.place, form, first, second)))
     }
 
     // One part with no binder.
     #[cycle(norm)]
-    fn wrap(&self, arena: &mut Arena, op: Unary, a: usize) -> Result<usize, Halt>
+    fn wrap(&self, arena: &mut Arena, form: Unary, a: usize) -> Result<usize, Halt>
         requires here { Within self.now arena.old }
         requires a { a < cells_in arena.old }
         requires paid { Paid arena.old }
-        ensures { Applies self.now (λ es p Δ. gives_wrap p Δ op (term arena.old a)) arena.old arena.new result }
+        ensures { Applies self.now (λ es p Δ. gives_wrap p Δ form (term arena.old a)) arena.old arena.new result }
     {
         let inner = self.norm(arena, a)?;
-        Ok(arena.add(Node::One(self.place, op, inner)))
+        Ok(arena.add(Node::One(self.place, form, inner)))
     }
 
     // An application: head, argument, then the form of the head.

@@ -19,7 +19,7 @@ pub struct Site<'a> {
 }
 
 impl<'a> Site<'a> {
-    ghost use Rattle.normal.specs.Views.{Within, Listed, Enters, entries_at, bindings_at, free};
+    ghost use Rattle.normal.specs.Views.{Listed, Enters, entries_at, bindings_at, free};
 
     // The entry `j`.
     pub fn entry(&self, j: usize) -> Option<Stored>
@@ -35,7 +35,7 @@ impl<'a> Site<'a> {
         kind: Option<usize>,
         value: Option<usize>,
     ) -> Result<Site<'a>, Spent>
-        requires here { Within self.now arena.old }
+        requires context { over self.now.context ≤ cells_in arena.old }
         requires kind { over kind ≤ cells_in arena.old }
         requires value { over value ≤ cells_in arena.old }
         ensures { Enters self.now (record { type = typed kind (term arena.old); value = bound value (term arena.old) }) arena.old arena.new result }
@@ -53,7 +53,7 @@ impl<'a> Site<'a> {
 
     // The site under a binder with neither type nor binding.
     pub fn inside(&self, arena: &mut Arena) -> Result<Site<'a>, Spent>
-        requires here { Within self.now arena.old }
+        requires { over self.now.context ≤ cells_in arena.old }
         ensures { Enters self.now free arena.old arena.new result }
     {
         self.enter(arena, None, None)

@@ -3,11 +3,11 @@ use Rattle.term.specs.declared.node.Unary.TheVariants.{Fst}
 use Rattle.term.specs.declared.node.Binary.TheVariants.{Pi}
 use Rattle.term.specs.Term.{Term, unary, binary, bare, place}
 use Rattle.term.specs.State.{term}
-use Rattle.term.proofs.States.{on_to}
+use Rattle.term.proofs.States.{still, on_to}
 use Rattle.rules.specs.Rules.{above, premise, has, meets, expect, as_sort, parts, lowering, has_a_sort, arm, has_rule, meets_rule, meets_one, meets_two, meets_equal}
 use Rattle.normal.specs.Views.{entries_at, context_at}
 use Rattle.kernel.specs.Runs.{unruled}
-use Rattle.kernel.proofs.Logic.{then, halt, last, then_lead, halt_lead, premised, form_again, form_stopped, form_filled, fill_stopped, enters, barred, pays, lacks, enters_lead, barred_lead, sort_or, concluded, stays_there, stored, after_adding, alike, unlike, some, again, inner, nested, nested_twice, outside, bound_of, put_as, has_ruled, meets_ruled, equal_rule, has_broke, meets_broke, has_unruled, no_rule_at, rule_at, nothing, at_side, side_met, when_true, when_false}
+use Rattle.kernel.proofs.Logic.{then, halt, last, then_lead, halt_lead, premised, form_again, form_stopped, form_filled, fill_stopped, enters, barred, pays, lacks, enters_lead, barred_lead, sort_or, concluded, stays_there, stored, after_adding, alike, unlike, some, again, inner, inner_part, inner_type, nested, nested_twice, outside, bound_of, put_as, has_ruled, meets_ruled, equal_rule, has_broke, meets_broke, has_unruled, no_rule_at, rule_at, nothing, at_side, side_met, when_true, when_false}
 use Rattle.kernel.proofs.typing.Typing.+typing.Goals as goal
 
 pub sort-returns-in_err-kind : goal.sort-returns-in_err-kind
@@ -28,52 +28,48 @@ arm-returns-in_err-inner g t c = barred_lead _ c.from_residual.ensures.1 c.in_er
 pub arm-returns-in_err-found : goal.arm-returns-in_err-found
 arm-returns-in_err-found g t c =
     let i = c.in_ok-inner.ensures in
-    let below = nested (ap (λ y. g.S.SortSystem.answers y.now) i.system) i.site in
-    enters_lead i.site (halt_lead (lowering 1) c.from_residual-in_err-found.ensures.1 (inner (λ Γ E. premise (has Γ E)) below refl (i.site.kept.trees c.args.id c.requires.id) i.site.kept c.requires.here (premised c.in_err-found.ensures)))
+    enters_lead i.site (halt_lead (lowering 1) c.from_residual-in_err-found.ensures.1 (inner_type c.args.id i.system refl (still _) c.requires.here c.requires.id i.site c.in_err-found.ensures))
 
 pub arm-returns : goal.arm-returns
 arm-returns g t c =
     let i = c.in_ok-inner.ensures in
-    let below = nested (ap (λ y. g.S.SortSystem.answers y.now) i.system) i.site in
-    enters_lead i.site (then_lead (lowering 1) (inner (λ Γ E. premise (has Γ E)) below refl (i.site.kept.trees c.args.id c.requires.id) i.site.kept c.requires.here (premised c.in_ok-found.ensures)) (c.lowered.ensures _ _))
+    enters_lead i.site (then_lead (lowering 1) (inner_type c.args.id i.system refl (still _) c.requires.here c.requires.id i.site c.in_ok-found.ensures) (c.lowered.ensures _ _))
 
 pub former-returns-in_err-domain : goal.former-returns-in_err-domain
 former-returns-in_err-domain g t c =
-    let s = c.in_ok-s.ensures in
+    let s = c.in_ok-domain_sort.ensures in
     then s (halt c.from_residual-in_err-domain.ensures.1 (form_stopped c.args.a s.kept c.requires.here c.requires.a c.in_err-domain.ensures))
 
 pub former-returns-in_err-inner : goal.former-returns-in_err-inner
 former-returns-in_err-inner g t c =
-    let s = c.in_ok-s.ensures in
+    let s = c.in_ok-domain_sort.ensures in
     then s (then (form_again c.args.a s.kept c.requires.here c.requires.a c.in_ok-domain.ensures) (barred c.from_residual-in_err-inner.ensures.1 c.in_err-inner.ensures.site))
 
-pub former-returns-in_err-t : goal.former-returns-in_err-t
-former-returns-in_err-t g t c =
-    let s = c.in_ok-s.ensures in
+pub former-returns-in_err-body_sort : goal.former-returns-in_err-body_sort
+former-returns-in_err-body_sort g t c =
+    let s = c.in_ok-domain_sort.ensures in
     let v = c.in_ok-domain.ensures in
     let i = c.in_ok-inner.ensures in
     let m = on_to s.kept v.kept in
-    let below = nested (ap (λ y. g.S.SortSystem.answers y.now) i.system) i.site in
-    then s (then (form_again c.args.a s.kept c.requires.here c.requires.a v) (enters i.site (halt c.from_residual-in_err-t.ensures.1 (inner has_a_sort below (outside refl m c.requires.here) ((on_to m i.site.kept).trees c.args.b c.requires.b) (on_to m i.site.kept) c.requires.here c.in_err-t.ensures))))
+    then s (then (form_again c.args.a s.kept c.requires.here c.requires.a v) (enters i.site (halt c.from_residual-in_err-body_sort.ensures.1 (inner_part has_a_sort c.args.b i.system refl m c.requires.here c.requires.b i.site c.in_err-body_sort.ensures))))
 
 pub former-returns : goal.former-returns
 former-returns g t c =
-    let s = c.in_ok-s.ensures in
+    let s = c.in_ok-domain_sort.ensures in
     let v = c.in_ok-domain.ensures in
     let i = c.in_ok-inner.ensures in
     let m = on_to s.kept v.kept in
-    let below = nested (ap (λ y. g.S.SortSystem.answers y.now) i.system) i.site in
-    then s (then (form_again c.args.a s.kept c.requires.here c.requires.a v) (enters i.site (then (inner has_a_sort below (outside refl m c.requires.here) ((on_to m i.site.kept).trees c.args.b c.requires.b) (on_to m i.site.kept) c.requires.here c.in_ok-t.ensures) (c.answered.ensures _ _ _ (sym c.join.ensures)))))
+    then s (then (form_again c.args.a s.kept c.requires.here c.requires.a v) (enters i.site (then (inner_part has_a_sort c.args.b i.system refl m c.requires.here c.requires.b i.site c.in_ok-body_sort.ensures) (c.answered.ensures _ _ _ (sym c.join.ensures)))))
 
-pub sum-returns-in_err-t : goal.sum-returns-in_err-t
-sum-returns-in_err-t g t c =
-    let s = c.in_ok-s.ensures in
-    then s (halt c.from_residual-in_err-t.ensures.1 (again has_a_sort (s.kept.trees c.args.b c.requires.b) s.kept c.requires.here c.in_err-t.ensures))
+pub sum-returns-in_err-right : goal.sum-returns-in_err-right
+sum-returns-in_err-right g t c =
+    let s = c.in_ok-left.ensures in
+    then s (halt c.from_residual-in_err-right.ensures.1 (again has_a_sort (s.kept.trees c.args.b c.requires.b) s.kept c.requires.here c.in_err-right.ensures))
 
 pub sum-returns : goal.sum-returns
 sum-returns g t c =
-    let s = c.in_ok-s.ensures in
-    then s (then (again has_a_sort (s.kept.trees c.args.b c.requires.b) s.kept c.requires.here c.in_ok-t.ensures) (c.answered.ensures _ _ _ (sym c.join.ensures)))
+    let s = c.in_ok-left.ensures in
+    then s (then (again has_a_sort (s.kept.trees c.args.b c.requires.b) s.kept c.requires.here c.in_ok-right.ensures) (c.answered.ensures _ _ _ (sym c.join.ensures)))
 
 pub lambda-returns-in_err-domain : goal.lambda-returns-in_err-domain
 lambda-returns-in_err-domain g t c =
@@ -91,8 +87,7 @@ lambda-returns-in_err-codomain g t c =
     let v = c.in_ok-domain.ensures in
     let i = c.in_ok-inner.ensures in
     let m = on_to s.kept v.kept in
-    let below = nested (ap (λ y. g.S.SortSystem.answers y.now) i.system) i.site in
-    then s (then (form_again c.args.a s.kept c.requires.here c.requires.a v) (enters i.site (halt c.from_residual-in_err-codomain.ensures.1 (inner (λ Γ E. premise (has Γ E)) below (outside refl m c.requires.here) ((on_to m i.site.kept).trees c.args.b c.requires.b) (on_to m i.site.kept) c.requires.here (premised c.in_err-codomain.ensures)))))
+    then s (then (form_again c.args.a s.kept c.requires.here c.requires.a v) (enters i.site (halt c.from_residual-in_err-codomain.ensures.1 (inner_type c.args.b i.system refl m c.requires.here c.requires.b i.site c.in_err-codomain.ensures))))
 
 pub lambda-returns : goal.lambda-returns
 lambda-returns g t c =
@@ -100,8 +95,7 @@ lambda-returns g t c =
     let v = c.in_ok-domain.ensures in
     let i = c.in_ok-inner.ensures in
     let m = on_to s.kept v.kept in
-    let below = nested (ap (λ y. g.S.SortSystem.answers y.now) i.system) i.site in
-    then s (then (form_again c.args.a s.kept c.requires.here c.requires.a v) (enters i.site (then (inner (λ Γ E. premise (has Γ E)) below (outside refl m c.requires.here) ((on_to m i.site.kept).trees c.args.b c.requires.b) (on_to m i.site.kept) c.requires.here (premised c.in_ok-codomain.ensures)) (stored (ap (λ T. binary c.args.self.now.site.place Pi T (term c.infer.new.arena c.in_ok-codomain.codomain)) ((on_to i.site.kept c.in_ok-codomain.ensures.kept).trees c.in_ok-domain.domain v.within)) c.add.ensures))))
+    then s (then (form_again c.args.a s.kept c.requires.here c.requires.a v) (enters i.site (then (inner_type c.args.b i.system refl m c.requires.here c.requires.b i.site c.in_ok-codomain.ensures) (stored (ap (λ T. binary c.args.self.now.site.place Pi T (term c.infer.new.arena c.in_ok-codomain.codomain)) ((on_to i.site.kept c.in_ok-codomain.ensures.kept).trees c.in_ok-domain.domain v.within)) c.add.ensures))))
 
 pub app-returns-in_err-check : goal.app-returns-in_err-check
 app-returns-in_err-check g t c =
@@ -167,7 +161,7 @@ open-returns-in_err-found g t c =
     let x = c.in_ok-first.ensures in
     let o = c.in_ok-outer.ensures in
     let i = c.in_ok-inner.ensures in
-    let below = nested_twice (ap (λ y. g.S.SortSystem.answers y.now) i.system) (nested (ap (λ y. g.S.SortSystem.answers y.now) o.system) o.site) i.site in
+    let below = nested_twice i.system (nested o.system o.site) i.site in
     let m = on_to (on_to x.kept o.site.kept) i.site.kept in
     then x (enters o.site (enters i.site (halt c.from_residual-in_err-found.ensures.1 (inner (λ Γ E. premise (has Γ E)) below (ap₂ (λ B Γ. B ∷ Γ) (bound_of None (o.site.kept.trees c.in_ok-first.second (omega (arith, x.within)))) (outside refl x.kept c.requires.here)) (m.trees c.args.b c.requires.b) m c.requires.here (premised c.in_err-found.ensures)))))
 
@@ -176,7 +170,7 @@ open-returns g t c =
     let x = c.in_ok-first.ensures in
     let o = c.in_ok-outer.ensures in
     let i = c.in_ok-inner.ensures in
-    let below = nested_twice (ap (λ y. g.S.SortSystem.answers y.now) i.system) (nested (ap (λ y. g.S.SortSystem.answers y.now) o.system) o.site) i.site in
+    let below = nested_twice i.system (nested o.system o.site) i.site in
     let m = on_to (on_to x.kept o.site.kept) i.site.kept in
     then x (enters o.site (enters i.site (then (inner (λ Γ E. premise (has Γ E)) below (ap₂ (λ B Γ. B ∷ Γ) (bound_of None (o.site.kept.trees c.in_ok-first.second (omega (arith, x.within)))) (outside refl x.kept c.requires.here)) (m.trees c.args.b c.requires.b) m c.requires.here (premised c.in_ok-found.ensures)) (last (c.lowered.ensures _ _)))))
 
@@ -199,8 +193,7 @@ bind-returns-in_err-found g t c =
     let v = c.in_ok-value.ensures in
     let i = c.in_ok-inner.ensures in
     let m = on_to q.kept v.kept in
-    let below = nested (ap (λ y. g.S.SortSystem.answers y.now) i.system) i.site in
-    then (premised q) (then (form_again c.args.a q.kept c.requires.here c.requires.a v) (enters i.site (halt c.from_residual-in_err-found.ensures.1 (inner (λ Γ E. premise (has Γ E)) below (outside (bound_of (Some (term c.norm.new.arena c.in_ok-value.value)) (v.kept.trees c.in_ok-kind.kind q.within)) m c.requires.here) ((on_to m i.site.kept).trees c.args.b c.requires.b) (on_to m i.site.kept) c.requires.here (premised c.in_err-found.ensures)))))
+    then (premised q) (then (form_again c.args.a q.kept c.requires.here c.requires.a v) (enters i.site (halt c.from_residual-in_err-found.ensures.1 (inner_type c.args.b i.system (bound_of (Some (term c.norm.new.arena c.in_ok-value.value)) (v.kept.trees c.in_ok-kind.kind q.within)) m c.requires.here c.requires.b i.site c.in_err-found.ensures))))
 
 pub bind-returns : goal.bind-returns
 bind-returns g t c =
@@ -208,8 +201,7 @@ bind-returns g t c =
     let v = c.in_ok-value.ensures in
     let i = c.in_ok-inner.ensures in
     let m = on_to q.kept v.kept in
-    let below = nested (ap (λ y. g.S.SortSystem.answers y.now) i.system) i.site in
-    then (premised q) (then (form_again c.args.a q.kept c.requires.here c.requires.a v) (enters i.site (then (inner (λ Γ E. premise (has Γ E)) below (outside (bound_of (Some (term c.norm.new.arena c.in_ok-value.value)) (v.kept.trees c.in_ok-kind.kind q.within)) m c.requires.here) ((on_to m i.site.kept).trees c.args.b c.requires.b) (on_to m i.site.kept) c.requires.here (premised c.in_ok-found.ensures)) (last (c.lowered.ensures _ _)))))
+    then (premised q) (then (form_again c.args.a q.kept c.requires.here c.requires.a v) (enters i.site (then (inner_type c.args.b i.system (bound_of (Some (term c.norm.new.arena c.in_ok-value.value)) (v.kept.trees c.in_ok-kind.kind q.within)) m c.requires.here c.requires.b i.site c.in_ok-found.ensures) (last (c.lowered.ensures _ _)))))
 
 pub ascribe-returns-in_err-check-in-Some : goal.ascribe-returns-in_err-check-in-Some
 ascribe-returns-in_err-check-in-Some g t c = some _ _ (sym c.in-Some.ensures) (halt c.from_residual.ensures.1 (premised c.in_err-check-in-Some.ensures))
@@ -292,13 +284,13 @@ fun-returns-in_err-inner g t c = then (c.in_ok-domain.ensures.parts _ _) (barred
 pub fun-returns-in_err-check : goal.fun-returns-in_err-check
 fun-returns-in_err-check g t c =
     let i = c.in_ok-inner.ensures in
-    let below = nested (ap (λ y. g.S.SortSystem.answers y.now) i.system) i.site in
+    let below = nested i.system i.site in
     then (c.in_ok-domain.ensures.parts _ _) (enters i.site (halt c.from_residual-in_err-check.ensures.1 (inner {Y = Term × Term} (λ Γ E. premise (meets Γ E.0 E.1)) below refl (ap₂ (λ E T. (E, T)) (i.site.kept.trees c.args.a c.requires.a) (i.site.kept.trees c.in_ok-domain.codomain (omega (arith, c.in_ok-domain.ensures.low)))) i.site.kept c.requires.here (premised c.in_err-check.ensures))))
 
 pub fun-returns : goal.fun-returns
 fun-returns g t c =
     let i = c.in_ok-inner.ensures in
-    let below = nested (ap (λ y. g.S.SortSystem.answers y.now) i.system) i.site in
+    let below = nested i.system i.site in
     then (c.in_ok-domain.ensures.parts _ _) (enters i.site (then (inner {Y = Term × Term} (λ Γ E. premise (meets Γ E.0 E.1)) below refl (ap₂ (λ E T. (E, T)) (i.site.kept.trees c.args.a c.requires.a) (i.site.kept.trees c.in_ok-domain.codomain (omega (arith, c.in_ok-domain.ensures.low)))) i.site.kept c.requires.here (premised c.in_ok-check.ensures)) (stays_there (on_to i.site.kept c.in_ok-check.ensures.kept) c.requires.want)))
 
 pub pair-returns-in_err-first : goal.pair-returns-in_err-first
@@ -357,7 +349,7 @@ infer-returns-in-Some g t c =
     has_unruled q.0 q.1 c.refused.ensures
 
 pub infer-returns-in-Sort : goal.infer-returns-in-Sort
-infer-returns-in-Sort g t c = has_ruled c.args.id c.in_ok-spend.ensures c.requires.here c.requires.id (ap place c.in-Sort.ensures.is) (ap (has_rule (entries_at c.args.self.now.site c.spend.new.self) (context_at c.args.self.now.site c.spend.new.self)) c.in-Sort.ensures.is) (rw c.at-in-Sort.ensures at c.answered.ensures _ _ (above c.in-Sort.s) (sym c.above.ensures))
+infer-returns-in-Sort g t c = has_ruled c.args.id c.in_ok-spend.ensures c.requires.here c.requires.id (ap place c.in-Sort.ensures.is) (ap (has_rule (entries_at c.args.self.now.site c.spend.new.self) (context_at c.args.self.now.site c.spend.new.self)) c.in-Sort.ensures.is) (rw c.at-in-Sort.ensures at c.answered.ensures _ _ (above c.in-Sort.sort) (sym c.above.ensures))
 
 pub infer-returns-in-Local : goal.infer-returns-in-Local
 infer-returns-in-Local g t c = has_ruled c.args.id c.in_ok-spend.ensures c.requires.here c.requires.id (ap place c.in-Local.ensures.is) (ap (has_rule (entries_at c.args.self.now.site c.spend.new.self) (context_at c.args.self.now.site c.spend.new.self)) c.in-Local.ensures.is) (rw c.at-in-Local.ensures at c.local.ensures _)
@@ -389,7 +381,7 @@ pub check-returns-in-One : goal.check-returns-in-One
 check-returns-in-One g t c = meets_ruled c.args.id c.args.want c.in_ok-spend.ensures c.requires.here c.requires.id c.requires.want (ap place c.in-One.ensures.is) (ap (λ E. meets_rule (context_at c.args.self.now.site c.spend.new.self) E (term c.spend.new.self c.args.want)) c.in-One.ensures.is ∙ ap (λ E. meets_one (context_at c.args.self.now.site c.spend.new.self) E c.in-One.form (term c.spend.new.self c.in-One.a) (term c.spend.new.self c.args.want)) (sym c.in-One.ensures.is)) (rw c.at-in-One.ensures at c.meet_one.ensures)
 
 pub check-returns-in-Two : goal.check-returns-in-Two
-check-returns-in-Two g t c = meets_ruled c.args.id c.args.want c.in_ok-spend.ensures c.requires.here c.requires.id c.requires.want (ap place c.in-Two.ensures.is) (ap (λ E. meets_rule (context_at c.args.self.now.site c.spend.new.self) E (term c.spend.new.self c.args.want)) c.in-Two.ensures.is ∙ ap (λ E. meets_two c.in-Two.p (context_at c.args.self.now.site c.spend.new.self) E c.in-Two.form (term c.spend.new.self c.in-Two.a) (term c.spend.new.self c.in-Two.b) (term c.spend.new.self c.args.want)) (sym c.in-Two.ensures.is)) (rw c.at-in-Two.ensures at c.meet_two.ensures)
+check-returns-in-Two g t c = meets_ruled c.args.id c.args.want c.in_ok-spend.ensures c.requires.here c.requires.id c.requires.want (ap place c.in-Two.ensures.is) (ap (λ E. meets_rule (context_at c.args.self.now.site c.spend.new.self) E (term c.spend.new.self c.args.want)) c.in-Two.ensures.is ∙ ap (λ E. meets_two c.in-Two.place (context_at c.args.self.now.site c.spend.new.self) E c.in-Two.form (term c.spend.new.self c.in-Two.a) (term c.spend.new.self c.in-Two.b) (term c.spend.new.self c.args.want)) (sym c.in-Two.ensures.is)) (rw c.at-in-Two.ensures at c.meet_two.ensures)
 
 pub check-returns-in-Sort : goal.check-returns-in-Sort
 check-returns-in-Sort g t c =

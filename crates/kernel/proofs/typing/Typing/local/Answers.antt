@@ -1,12 +1,12 @@
 use Rattle.std.proofs.Common.{sym, ap, ◌∙◌}
 use Rattle.term.specs.State.{seen}
-use Rattle.kernel.proofs.Logic.{some, none, refused_out, unfound, typed_as, pays, lacks, concluded}
+use Rattle.kernel.proofs.Logic.{some, none, refused_out, typed_as, pays, lacks, concluded}
 use Rattle.kernel.proofs.typing.Typing.local.Goals as goal
 
 pub returns-in_err-binder : goal.returns-in_err-binder
 returns-in_err-binder g c X =
     let n = c.in_err-binder.ensures in
-    none _ (c.binder.ensures.is ∙ ap (seen c.args.arena.now) n.ok_part) (refused_out c.from_residual.ensures.1 (unfound n.ok_part n.value ∙ c.refused.ensures))
+    none _ (c.binder.ensures.is ∙ ap (seen c.args.arena.now) n.ok_part) (refused_out c.from_residual.ensures.1 n.ok_part n.value c.refused.ensures)
 
 pub returns-in_err-lift-in-Some : goal.returns-in_err-lift-in-Some
 returns-in_err-lift-in-Some g c X =

@@ -55,7 +55,7 @@ pub under-returns : goal.under-returns
 under-returns t c =
     let i = c.in_ok-inner.ensures in
     let w = c.in_ok-body.ensures in
-    then c.in_ok-domain.ensures (enters i (then (inner c.args.b c.in_ok-domain.ensures.kept c.requires.here c.requires.b i w) (stored_two c.args.op c.in_ok-domain.domain c.in_ok-body.body (on_to i.kept w.kept) c.in_ok-domain.ensures.within c.add.ensures)))
+    then c.in_ok-domain.ensures (enters i (then (inner c.args.b c.in_ok-domain.ensures.kept c.requires.here c.requires.b i w) (stored_two c.args.form c.in_ok-domain.domain c.in_ok-body.body (on_to i.kept w.kept) c.in_ok-domain.ensures.within c.add.ensures)))
 
 pub beside-returns-in_err-first : goal.beside-returns-in_err-first
 beside-returns-in_err-first t c = halt c.from_residual.ensures.1 c.in_err-first.ensures
@@ -67,7 +67,7 @@ pub beside-returns : goal.beside-returns
 beside-returns t c =
     let v = c.in_ok-first.ensures in
     let w = c.in_ok-second.ensures in
-    then v (then (again c.args.b v.kept c.requires.here c.requires.b w) (stored_two c.args.op c.in_ok-first.first c.in_ok-second.second w.kept v.within c.add.ensures))
+    then v (then (again c.args.b v.kept c.requires.here c.requires.b w) (stored_two c.args.form c.in_ok-first.first c.in_ok-second.second w.kept v.within c.add.ensures))
 
 pub wrap-returns-in_err-inner : goal.wrap-returns-in_err-inner
 wrap-returns-in_err-inner t c = halt c.from_residual.ensures.1 c.in_err-inner.ensures
