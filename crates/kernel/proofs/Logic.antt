@@ -29,7 +29,7 @@ use Rattle.normal.proofs.Steps as steps
 use Rattle.kernel.specs.declared.fault.Fault.{Fault}
 use Rattle.kernel.specs.declared.fault.Fault.TheVariants.{Spent, Refused}
 use Rattle.kernel.specs.Faults.{typing, passed, faulted}
-use Rattle.kernel.specs.Runs.{outcome, Judges, Ran, Leading, Leads, Infers, Begins, pair, tips, sorted, none as none_of, unruled as unruled_at, meets_side}
+use Rattle.kernel.specs.Runs.{outcome, Judges, Ran, Leading, Leads, JudgesAt, Begins, pair, tips, sorted, none as none_of, unruled as unruled_at, meets_side}
 
 err_within : {A E : Type 0} (Q : E → Type 0) (P : A → Type 0) (r : Result A E) → IsErrAnd r Q → IfOk r P
 err_within Q P (Ok a) q = elim q [ ]
@@ -316,7 +316,7 @@ module _ {A X : Type 0} {v : A → X} {tip : A → ℕ} {z : Arena} {r : Result 
   inner_part F i q e k h l n d = let m = on_to k n.kept in inner F (nested q n) (outside e k h) (m.trees i l) m h d
 
 -- a type that was inferred under one binder
-pub inner_type : {S S' : System} {s t : Site} {B B' : Bound} {x y u z : Arena} {r : Result ℕ Fault} (i : ℕ) → S' ≡ S → B ≡ B' → Kept x y → Within s x → i < cells_in x → Enters s B y u (Ok t) → Infers S' t (λ Δ. has Δ (term u i)) u z r → Leads S (entries_at s x) (typing s.place) (premise (has (B' ∷ context_at s x) (term x i))) (term z) suc u z r
+pub inner_type : {S S' : System} {s t : Site} {B B' : Bound} {x y u z : Arena} {r : Result ℕ Fault} (i : ℕ) → S' ≡ S → B ≡ B' → Kept x y → Within s x → i < cells_in x → Enters s B y u (Ok t) → JudgesAt S' t (λ Δ. has Δ (term u i)) u z r → Leads S (entries_at s x) (typing s.place) (premise (has (B' ∷ context_at s x) (term x i))) (term z) suc u z r
 inner_type i q e k h l n d = inner_part (λ Γ E. premise (has Γ E)) i q e k h l n (premised d)
 
 -- a normal form as a first premise, later

@@ -66,8 +66,8 @@ abbrev pub none : ℕ → ℕ
 none s = 0
 
 -- a judgement was looked into, premises were gone through, and the first of some premises, at a site
-abbrev pub Infers : System → Site → (List Bound → Judgement) → Arena → Arena → Result ℕ Fault → Type 0
-Infers S s j a b r = Judges S (entries_at s a) (j (context_at s a)) a b r
+abbrev pub JudgesAt : System → Site → (List Bound → Judgement) → Arena → Arena → Result ℕ Fault → Type 0
+JudgesAt S s j a b r = Judges S (entries_at s a) (j (context_at s a)) a b r
 
 abbrev pub Applies : System → Site → (List Entry → ℕ → List Bound → Premises) → Arena → Arena → Result ℕ Fault → Type 0
 Applies S s c a b r = Ran S (entries_at s a) (typing s.place) (c (entries_at s a) s.place (context_at s a)) a b r

@@ -6,7 +6,7 @@ ghost use Rattle.rules.specs.Rules.{Premises, has, meets, has_a_sort, has_parts,
 ghost use Rattle.rules.specs.Rules.{has_first, has_second, has_unpack, has_let, has_ascription, has_ascribed, has_match, has_one, has_two};
 ghost use Rattle.rules.specs.Rules.{meets_fun, meets_pair, meets_equal, meets_one, meets_two};
 ghost use Rattle.normal.specs.Views.{Within, Paid, context_at};
-ghost use Rattle.kernel.specs.Runs.{Infers, Applies, Begins, pair, tips, sorted, none, meets_side};
+ghost use Rattle.kernel.specs.Runs.{JudgesAt, Applies, Begins, pair, tips, sorted, none, meets_side};
 
 use crate::fault::{Fault, refused};
 use crate::steps::{as_sort, unruled};
@@ -31,7 +31,7 @@ impl<'a, S: SortSystem> Typing<'a, S> {
     pub fn infer(&self, arena: &mut Arena, id: usize) -> Result<usize, Fault>
         requires here { Within self.now.site arena.old }
         requires id { id < cells_in arena.old }
-        ensures { Infers (S.SortSystem.answers self.now.system.now) self.now.site (λ Γ. has Γ (term arena.old id)) arena.old arena.new result }
+        ensures { JudgesAt (S.SortSystem.answers self.now.system.now) self.now.site (λ Γ. has Γ (term arena.old id)) arena.old arena.new result }
     {
         if let Some(place) = unruled(arena, id) {
             return Err(refused(Reason::NoRule, place));
@@ -53,7 +53,7 @@ impl<'a, S: SortSystem> Typing<'a, S> {
         requires here { Within self.now.site arena.old }
         requires id { id < cells_in arena.old }
         requires want { want < cells_in arena.old }
-        ensures { Infers (S.SortSystem.answers self.now.system.now) self.now.site (λ Γ. meets Γ (term arena.old id) (term arena.old want)) arena.old arena.new result }
+        ensures { JudgesAt (S.SortSystem.answers self.now.system.now) self.now.site (λ Γ. meets Γ (term arena.old id) (term arena.old want)) arena.old arena.new result }
     {
         arena.spend(1)?;
         match arena.at(id) {

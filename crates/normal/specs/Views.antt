@@ -1,4 +1,4 @@
--- What indices stand for in the rules: entries, bindings, and the parts of a term.
+-- What indices and sites stand for in the rules: entries, contexts, bindings, and the parts of a term.
 use Rattle.std.specs.Prelude.{◌≡◌, ℕ, suc, ◌+◌, ◌<◌, ◌≤◌, max, List, [], ◌∷◌, Some, None, Option, Result, MatchResult}
 use Rattle.std.specs.List.{slice_get}
 use Rattle.term.specs.declared.arena.Arena.{Arena}
