@@ -1,10 +1,15 @@
 -- Lines of a key and a value.
 use Rattle.std.specs.Prelude.{◌≡◌, ℕ, List, [], ◌∷◌, ◌++◌, Some, None, codes, decimal, Option}
+use Rattle.report.specs.declared.lines.Lines.{Lines}
 use Rattle.report.specs.declared.refusal.Refusal.{Refusal}
 
 -- a text was put after what there was
 pub record Appended (was text is : List ℕ) : Type 0 where
   pub whole : is ≡ was ++ text
+
+-- a text was put after the lines
+abbrev pub Adds : Lines → List ℕ → Lines → Type 0
+Adds was text is = Appended was.bytes.items text is.bytes.items
 
 -- a key, a value and the line's end
 unfoldable pub line : List ℕ → List ℕ → List ℕ

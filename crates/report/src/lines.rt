@@ -1,6 +1,6 @@
 //! Lines of a key and a value.
 ghost use Rattle.std.specs.Prelude.{decimal, OnOk};
-ghost use Rattle.report.specs.Lines.{Appended, line, place_line, refusal_lines};
+ghost use Rattle.report.specs.Lines.{Adds, line, place_line, refusal_lines};
 
 use crate::refusal::Refusal;
 use itoa::Buffer;
@@ -18,7 +18,7 @@ pub struct Lines {
 impl Lines {
     /// A key, a value and the line's end.
     pub fn text(&mut self, key: &[u8], value: &[u8]) -> Result<(), AllocError>
-        ensures { OnOk result (Appended self.old.bytes.items (line key.now value.now) self.new.bytes.items) }
+        ensures { OnOk result (Adds self.old (line key.now value.now) self.new) }
     {
         self.bytes.extend_from_slice(key)?;
         self.bytes.extend_from_slice(value)?;
@@ -28,7 +28,7 @@ impl Lines {
 
     /// A key, a number in decimal digits and the line's end.
     pub fn number(&mut self, key: &[u8], value: usize) -> Result<(), AllocError>
-        ensures { OnOk result (Appended self.old.bytes.items (line key.now (decimal value)) self.new.bytes.items) }
+        ensures { OnOk result (Adds self.old (line key.now (decimal value)) self.new) }
     {
         let mut digits = Buffer::new();
         self.text(key, digits.format(value).as_bytes())
@@ -36,7 +36,7 @@ impl Lines {
 
     // A key and a place, or a dash where there is none.
     fn place(&mut self, key: &[u8], place: Option<usize>) -> Result<(), AllocError>
-        ensures { OnOk result (Appended self.old.bytes.items (place_line key.now place) self.new.bytes.items) }
+        ensures { OnOk result (Adds self.old (place_line key.now place) self.new) }
     {
         match place {
             Some(at) => self.number(key, at),
@@ -46,7 +46,7 @@ impl Lines {
 
     // The answer, 0 or the number of a refusal, and under the key its place.
     pub(crate) fn answer(&mut self, key: &[u8], refusal: Option<Refusal>) -> Result<(), AllocError>
-        ensures { OnOk result (Appended self.old.bytes.items (refusal_lines key.now refusal) self.new.bytes.items) }
+        ensures { OnOk result (Adds self.old (refusal_lines key.now refusal) self.new) }
     {
         match refusal {
             Some(Refusal { number, place }) => {

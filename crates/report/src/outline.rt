@@ -1,6 +1,6 @@
 //! The outline of a script: what its statements are, from their lexemes alone.
 ghost use Rattle.std.specs.Prelude.{◌≡◌, Some, IfOk, OnOk};
-ghost use Rattle.report.specs.Lines.{Appended};
+ghost use Rattle.report.specs.Lines.{Adds};
 ghost use Rattle.report.specs.Outline.{kind_text, name_text, what_lines, answer_lines, outline};
 
 use crate::lines::Lines;
@@ -9,6 +9,7 @@ use crate::told::{Teller, told};
 use script::statement::{Statement, StatementKind};
 use std::alloc::{AllocError, Global};
 
+// The teller of outlines: the script is all that it keeps.
 #[derive(Clone, Copy)]
 struct Outline<'a> {
     script: &'a [u8],
@@ -28,7 +29,7 @@ fn kind_word(kind: StatementKind) -> &'static [u8]
 impl Outline<'_> {
     // The number, place, kind and name of a statement, and its count of tokens.
     fn what(&self, lines: &mut Lines, number: usize, st: &Statement) -> Result<(), AllocError>
-        ensures { OnOk result (Appended lines.old.bytes.items (what_lines number self.now.script.now st.now) lines.new.bytes.items) }
+        ensures { OnOk result (Adds lines.old (what_lines number self.now.script.now st.now) lines.new) }
     {
         let kind: &[u8] = st.kind.map_or(b"-", kind_word);
         let name: &[u8] = st.name.map_or(b"-", |span| span.bytes(self.script));
@@ -42,7 +43,7 @@ impl Outline<'_> {
 
 // The refusal that the statement's tokens meet, or 0.
 fn check(lines: &mut Lines, st: &Statement) -> Result<(), AllocError>
-    ensures { OnOk result (Appended lines.old.bytes.items (answer_lines st.now) lines.new.bytes.items) }
+    ensures { OnOk result (Adds lines.old (answer_lines st.now) lines.new) }
 {
     lines.answer(b"place=", st.check_tokens().err().map(Refusal::from))
 }

@@ -1,6 +1,6 @@
 //! The reprint of a script: each statement's term as it was read, in its canonical text.
 ghost use Rattle.std.specs.Prelude.{◌≡◌, ◌<◌, ◌≤◌, length, IfOk, OnOk, vec_len, codes};
-ghost use Rattle.report.specs.Lines.{Appended, line};
+ghost use Rattle.report.specs.Lines.{Adds, line};
 ghost use Rattle.report.specs.Told.{IsTooLong};
 ghost use Rattle.report.specs.Reprint.{IsReprint, Cleared};
 
@@ -66,7 +66,7 @@ impl<'a> Reprint<'a> {
 
     // The line of the tree's text, or of a dash if the page is too small for it.
     fn term_line(&mut self, lines: &mut Lines, id: usize) -> Result<(), AllocError>
-        ensures told { OnOk result (Appended lines.old.bytes.items (line (codes "term=") (fitting (vec_len self.old.page) (text_at self.old id))) lines.new.bytes.items) }
+        ensures told { OnOk result (Adds lines.old (line (codes "term=") (fitting (vec_len self.old.page) (text_at self.old id))) lines.new) }
         ensures rest { SameButPage self.old self.new }
     {
         match print(
