@@ -2,10 +2,10 @@
 ghost use Rattle.std.specs.Prelude.{◌≡◌, ℕ, suc, ◌+◌, ◌-◌, ◌*◌, ◌^◌, ◌<◌, ◌≤◌, List, Option, IfOk};
 ghost use Rattle.std.specs.Result.{result_map_both};
 ghost use Rattle.term.specs.Cells.{bound, over, reach, high};
-ghost use Rattle.term.specs.State.{term, cells_in};
+ghost use Rattle.term.specs.State.{term, cells_in, HasSpare};
 ghost use Rattle.rules.specs.Rules.{Question, Entry, as_sort, expect, parts, lowering, ask, gets, has_local, has_entry};
 ghost use Rattle.rules.specs.Derivation.{System, refusal};
-ghost use Rattle.normal.specs.Views.{Within, Paid, Enters, entries_at};
+ghost use Rattle.normal.specs.Views.{Within, Enters, entries_at};
 ghost use Rattle.kernel.specs.declared.fault.Fault.TheVariants as fault;
 ghost use Rattle.kernel.specs.Faults.{typing};
 ghost use Rattle.kernel.specs.Runs.{Ran, Applies, Leads, pair, tips, unruled, sort_gets};
@@ -102,7 +102,7 @@ impl<'a, S: SortSystem> Typing<'a, S> {
 
     // The sort with which the system has answered a question.
     pub(crate) fn answered(&self, arena: &mut Arena, answer: Option<u16>) -> Result<usize, Fault>
-        requires { Paid arena.old }
+        requires { HasSpare arena.old }
         ensures { (X : System) (es : List Entry) (q : Question) → X q ≡ answer → Ran X es (typing self.now.site.place) (ask q (sort_gets self.now.site.place)) arena.old arena.new result }
     {
         let sort = answer.ok_or(self.refused(Reason::NoSort))?;

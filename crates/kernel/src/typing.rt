@@ -1,11 +1,11 @@
 //! The rules of types, a function for each: what is left of the budget falls at each use.
 ghost use Rattle.std.specs.Prelude.{◌≡◌, ℕ, suc, ◌+◌, ◌-◌, ◌*◌, ◌^◌, ◌<◌, ◌≤◌, List, [], ◌∷◌, Some, None, All};
 ghost use Rattle.term.specs.Cells.{form, reach, high, over};
-ghost use Rattle.term.specs.State.{term, cells_in};
+ghost use Rattle.term.specs.State.{term, cells_in, HasSpare};
 ghost use Rattle.rules.specs.Rules.{Premises, has, meets, has_a_sort, has_parts, arm, has_former, has_sum, has_typed, has_app};
 ghost use Rattle.rules.specs.Rules.{has_first, has_second, has_unpack, has_let, has_ascription, has_ascribed, has_match, has_one, has_two};
 ghost use Rattle.rules.specs.Rules.{meets_fun, meets_pair, meets_equal, meets_one, meets_two};
-ghost use Rattle.normal.specs.Views.{Within, Paid, context_at};
+ghost use Rattle.normal.specs.Views.{Within, context_at};
 ghost use Rattle.kernel.specs.Runs.{JudgesAt, Applies, Begins, pair, tips, sorted, none, meets_side};
 
 use crate::fault::{Fault, refused};
@@ -106,7 +106,7 @@ impl<'a, S: SortSystem> Typing<'a, S> {
     fn one(&self, arena: &mut Arena, form: Unary, a: usize) -> Result<usize, Fault>
         requires here { Within self.now.site arena.old }
         requires a { a < cells_in arena.old }
-        requires paid { Paid arena.old }
+        requires paid { HasSpare arena.old }
         ensures { (c : Premises) → has_one self.now.site.place (context_at self.now.site arena.old) form (term arena.old a) ≡ Some c → Applies (S.SortSystem.answers self.now.system.now) self.now.site (λ es p Γ. c) arena.old arena.new result }
     {
         match form {
@@ -122,7 +122,7 @@ impl<'a, S: SortSystem> Typing<'a, S> {
         requires here { Within self.now.site arena.old }
         requires a { a < cells_in arena.old }
         requires b { b < cells_in arena.old }
-        requires paid { Paid arena.old }
+        requires paid { HasSpare arena.old }
         ensures { (c : Premises) → has_two self.now.site.place (context_at self.now.site arena.old) form (term arena.old a) (term arena.old b) ≡ Some c → Applies (S.SortSystem.answers self.now.system.now) self.now.site (λ es p Γ. c) arena.old arena.new result }
     {
         match form {
@@ -143,7 +143,7 @@ impl<'a, S: SortSystem> Typing<'a, S> {
         requires here { Within self.now.site arena.old }
         requires a { a < cells_in arena.old }
         requires b { b < cells_in arena.old }
-        requires paid { Paid arena.old }
+        requires paid { HasSpare arena.old }
         ensures { Applies (S.SortSystem.answers self.now.system.now) self.now.site (λ es p Γ. has_former p Γ (term arena.old a) (term arena.old b)) arena.old arena.new result }
     {
         let domain_sort = self.sort(arena, a)?;
@@ -159,7 +159,7 @@ impl<'a, S: SortSystem> Typing<'a, S> {
         requires here { Within self.now.site arena.old }
         requires a { a < cells_in arena.old }
         requires b { b < cells_in arena.old }
-        requires paid { Paid arena.old }
+        requires paid { HasSpare arena.old }
         ensures { Applies (S.SortSystem.answers self.now.system.now) self.now.site (λ es p Γ. has_sum p Γ (term arena.old a) (term arena.old b)) arena.old arena.new result }
     {
         let left = self.sort(arena, a)?;
@@ -173,7 +173,7 @@ impl<'a, S: SortSystem> Typing<'a, S> {
         requires here { Within self.now.site arena.old }
         requires a { a < cells_in arena.old }
         requires b { b < cells_in arena.old }
-        requires paid { Paid arena.old }
+        requires paid { HasSpare arena.old }
         ensures { Applies (S.SortSystem.answers self.now.system.now) self.now.site (λ es p Γ. has_typed p Γ (term arena.old a) (term arena.old b)) arena.old arena.new result }
     {
         self.sort(arena, a)?;
@@ -213,7 +213,7 @@ impl<'a, S: SortSystem> Typing<'a, S> {
     fn second(&self, arena: &mut Arena, a: usize) -> Result<usize, Fault>
         requires here { Within self.now.site arena.old }
         requires a { a < cells_in arena.old }
-        requires paid { Paid arena.old }
+        requires paid { HasSpare arena.old }
         ensures { Applies (S.SortSystem.answers self.now.system.now) self.now.site (λ es p Γ. has_second p Γ (term arena.old a)) arena.old arena.new result }
     {
         let (_, second) = self.split(arena, Binary::Sigma, a)?;

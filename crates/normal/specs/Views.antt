@@ -67,10 +67,6 @@ pub record Within (s : Site) (a : Arena) : Type 0 where
   pub rows : top s.entries.now ≤ cells_in a
   pub ctx : over s.context ≤ cells_in a
 
--- one free cell more than the budget may use: it was paid for
-abbrev pub Paid : Arena → Type 0
-Paid a = cells_in a + a.left < a.limit
-
 -- t is s under one more binder, B
 pub record Inner (s : Site) (B : Bound) (a b : Arena) (t : Site) : Type 0 where
   pub entries : t.entries ≡ s.entries

@@ -1,7 +1,7 @@
 //! The rules of normal forms, a function for each: what is left of the budget falls at each use.
 ghost use Rattle.std.specs.Prelude.{◌≡◌, ℕ, suc, ◌+◌, ◌-◌, ◌*◌, ◌^◌, ◌<◌, ◌≤◌, All, map};
 ghost use Rattle.term.specs.Cells.{reach, high, over};
-ghost use Rattle.term.specs.State.{term, cells_in};
+ghost use Rattle.term.specs.State.{term, cells_in, HasSpare};
 ghost use Rattle.rules.specs.Rules.{gives_local, gives_entry, gives_fun, gives_under, gives_beside, gives_wrap};
 ghost use Rattle.rules.specs.Rules.{gives_filled, gives_use, gives_app, gives_let};
 ghost use Rattle.rules.specs.Rules.{gives_deep, gives_open, gives_unpack, gives_arms, gives_pick, gives_match, gives_one, gives_two};
@@ -14,7 +14,7 @@ use term::node::{Binary, Node, Unary};
 
 // Stays: the parts of a term are indices of a fixed arena, so each contract says they are there.
 impl<'a> Site<'a> {
-    ghost use Rattle.normal.specs.Views.{Within, Paid, gives_side};
+    ghost use Rattle.normal.specs.Views.{Within, gives_side};
     ghost use Rattle.normal.specs.Runs.{Normalises, Applies, Keeps};
 
     // A local: its binding, lifted, or itself.
@@ -76,7 +76,7 @@ impl<'a> Site<'a> {
     fn one(&self, arena: &mut Arena, form: Unary, a: usize) -> Result<usize, Halt>
         requires here { Within self.now arena.old }
         requires a { a < cells_in arena.old }
-        requires paid { Paid arena.old }
+        requires paid { HasSpare arena.old }
         ensures { Applies self.now (λ es p Δ. gives_one es p Δ form (term arena.old a)) arena.old arena.new result }
     {
         match form {
@@ -93,7 +93,7 @@ impl<'a> Site<'a> {
         requires here { Within self.now arena.old }
         requires a { a < cells_in arena.old }
         requires b { b < cells_in arena.old }
-        requires paid { Paid arena.old }
+        requires paid { HasSpare arena.old }
         ensures { Applies self.now (λ es p Δ. gives_two es p Δ form (term arena.old a) (term arena.old b)) arena.old arena.new result }
     {
         match form {
@@ -112,7 +112,7 @@ impl<'a> Site<'a> {
     fn fun(&self, arena: &mut Arena, a: usize) -> Result<usize, Halt>
         requires here { Within self.now arena.old }
         requires a { a < cells_in arena.old }
-        requires paid { Paid arena.old }
+        requires paid { HasSpare arena.old }
         ensures { Applies self.now (λ es p Δ. gives_fun p Δ (term arena.old a)) arena.old arena.new result }
     {
         let inner = self.inside(arena)?;
@@ -126,7 +126,7 @@ impl<'a> Site<'a> {
         requires here { Within self.now arena.old }
         requires a { a < cells_in arena.old }
         requires b { b < cells_in arena.old }
-        requires paid { Paid arena.old }
+        requires paid { HasSpare arena.old }
         ensures { Applies self.now (λ es p Δ. gives_under p Δ form (term arena.old a) (term arena.old b)) arena.old arena.new result }
     {
         let domain = self.norm(arena, a)?;
@@ -141,7 +141,7 @@ impl<'a> Site<'a> {
         requires here { Within self.now arena.old }
         requires a { a < cells_in arena.old }
         requires b { b < cells_in arena.old }
-        requires paid { Paid arena.old }
+        requires paid { HasSpare arena.old }
         ensures { Applies self.now (λ es p Δ. gives_beside p Δ form (term arena.old a) (term arena.old b)) arena.old arena.new result }
     {
         let first = self.norm(arena, a)?;
@@ -154,7 +154,7 @@ impl<'a> Site<'a> {
     fn wrap(&self, arena: &mut Arena, form: Unary, a: usize) -> Result<usize, Halt>
         requires here { Within self.now arena.old }
         requires a { a < cells_in arena.old }
-        requires paid { Paid arena.old }
+        requires paid { HasSpare arena.old }
         ensures { Applies self.now (λ es p Δ. gives_wrap p Δ form (term arena.old a)) arena.old arena.new result }
     {
         let inner = self.norm(arena, a)?;
@@ -167,7 +167,7 @@ impl<'a> Site<'a> {
         requires here { Within self.now arena.old }
         requires a { a < cells_in arena.old }
         requires b { b < cells_in arena.old }
-        requires paid { Paid arena.old }
+        requires paid { HasSpare arena.old }
         ensures { Applies self.now (λ es p Δ. gives_app es p Δ (term arena.old a) (term arena.old b)) arena.old arena.new result }
     {
         let head = self.norm(arena, a)?;
@@ -181,7 +181,7 @@ impl<'a> Site<'a> {
         requires here { Within self.now arena.old }
         requires f { f < cells_in arena.old }
         requires v { v < cells_in arena.old }
-        requires paid { Paid arena.old }
+        requires paid { HasSpare arena.old }
         ensures { Applies self.now (λ es p Δ. gives_use es p Δ (term arena.old f) (term arena.old v)) arena.old arena.new result }
     {
         match part(arena, Unary::Fun, f) {
@@ -198,7 +198,7 @@ impl<'a> Site<'a> {
     fn fill(&self, arena: &mut Arena, args: &[usize], b: usize) -> Result<usize, Halt>
         requires here { Within self.now arena.old }
         requires args { All (λ i. i < cells_in arena.old) args.now }
-        requires paid { Paid arena.old }
+        requires paid { HasSpare arena.old }
         ensures { Applies self.now (λ es p Δ. gives_filled p Δ (map (term arena.old) args.now) (term arena.old b)) arena.old arena.new result }
     {
         let filled = arena.put(args, b)?;
@@ -211,7 +211,7 @@ impl<'a> Site<'a> {
         requires here { Within self.now arena.old }
         requires a { a < cells_in arena.old }
         requires b { b < cells_in arena.old }
-        requires paid { Paid arena.old }
+        requires paid { HasSpare arena.old }
         ensures { Applies self.now (λ es p Δ. gives_let p Δ (term arena.old a) (term arena.old b)) arena.old arena.new result }
     {
         let value = self.norm(arena, a)?;
@@ -223,7 +223,7 @@ impl<'a> Site<'a> {
     fn projection(&self, arena: &mut Arena, side: Side, a: usize) -> Result<usize, Halt>
         requires here { Within self.now arena.old }
         requires a { a < cells_in arena.old }
-        requires paid { Paid arena.old }
+        requires paid { HasSpare arena.old }
         ensures { Applies self.now (λ es p Δ. gives_side side es p Δ (term arena.old a)) arena.old arena.new result }
     {
         let whole = self.norm(arena, a)?;
@@ -242,7 +242,7 @@ impl<'a> Site<'a> {
         requires here { Within self.now arena.old }
         requires a { a < cells_in arena.old }
         requires b { b < cells_in arena.old }
-        requires paid { Paid arena.old }
+        requires paid { HasSpare arena.old }
         ensures { Applies self.now (λ es p Δ. gives_unpack es p Δ (term arena.old a) (term arena.old b)) arena.old arena.new result }
     {
         let whole = self.norm(arena, a)?;
@@ -255,7 +255,7 @@ impl<'a> Site<'a> {
         requires here { Within self.now arena.old }
         requires v { v < cells_in arena.old }
         requires b { b < cells_in arena.old }
-        requires paid { Paid arena.old }
+        requires paid { HasSpare arena.old }
         ensures { Applies self.now (λ es p Δ. gives_open es p Δ (term arena.old v) (term arena.old b)) arena.old arena.new result }
     {
         match parts(arena, Binary::Pack, v) {
@@ -273,7 +273,7 @@ impl<'a> Site<'a> {
         requires here { Within self.now arena.old }
         requires v { v < cells_in arena.old }
         requires b { b < cells_in arena.old }
-        requires paid { Paid arena.old }
+        requires paid { HasSpare arena.old }
         ensures { Applies self.now (λ es p Δ. gives_deep p Δ (term arena.old v) (term arena.old b)) arena.old arena.new result }
     {
         let outer = self.inside(arena)?;
@@ -289,7 +289,7 @@ impl<'a> Site<'a> {
         requires a { a < cells_in arena.old }
         requires f { f < cells_in arena.old }
         requires g { g < cells_in arena.old }
-        requires paid { Paid arena.old }
+        requires paid { HasSpare arena.old }
         ensures { Applies self.now (λ es p Δ. gives_match es p Δ (term arena.old a) (term arena.old f) (term arena.old g)) arena.old arena.new result }
     {
         let whole = self.norm(arena, a)?;
@@ -303,7 +303,7 @@ impl<'a> Site<'a> {
         requires v { v < cells_in arena.old }
         requires f { f < cells_in arena.old }
         requires g { g < cells_in arena.old }
-        requires paid { Paid arena.old }
+        requires paid { HasSpare arena.old }
         ensures { Applies self.now (λ es p Δ. gives_pick es p Δ (term arena.old v) (term arena.old f) (term arena.old g)) arena.old arena.new result }
     {
         match (part(arena, Unary::Inl, v), part(arena, Unary::Inr, v)) {
@@ -323,7 +323,7 @@ impl<'a> Site<'a> {
         requires v { v < cells_in arena.old }
         requires f { f < cells_in arena.old }
         requires g { g < cells_in arena.old }
-        requires paid { Paid arena.old }
+        requires paid { HasSpare arena.old }
         ensures { Applies self.now (λ es p Δ. gives_arms p Δ (term arena.old v) (term arena.old f) (term arena.old g)) arena.old arena.new result }
     {
         let left_site = self.inside(arena)?;
