@@ -13,6 +13,7 @@ pub enum PrintFault {
 
 impl PrintFault {
     /// The refusal's number.
+    // Stays: `fault.number()` says what it gives, as at the other faults, and `u32::from` would not.
     pub fn number(self) -> u32
         ensures { result ≡ print_number self }
     {

@@ -15,6 +15,7 @@ struct Outline<'a> {
     script: &'a [u8],
 }
 
+// Stays: the lines are bytes; a Display writes text through a formatter and is no plainer here.
 fn kind_word(kind: StatementKind) -> &'static [u8]
     ensures { result.now ≡ kind_text (Some kind) }
 {
