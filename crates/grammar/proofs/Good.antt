@@ -1,5 +1,6 @@
 -- A name of a script that begins with a letter is good.
 use Rattle.std.proofs.Common.{◌≡◌, ℕ, zero, suc, pred, Bool, true, false, cond, not, ◌&&◌, eqb, leb, List, [], ◌∷◌, length, get_or, take, drop, Some, None, codes, Option, sym, refl, ap, ◌∙◌, subst, one-add, arith}
+use Rattle.std.specs.Option.{option_or, unwrap_or}
 use Rattle.std.specs.Char.{is_ascii_alphabetic}
 use Rattle.std.specs.List.{prefix_len, AllByRecursion}
 use Rattle.std.specs.Str.{bytes_eq}
@@ -10,7 +11,7 @@ use Rattle.script.specs.declared.token.Kind.TheVariants.{Name, NoToken}
 use Rattle.script.specs.declared.token.Piece.{Piece}
 use Rattle.script.specs.Lexemes.{Lexeme}
 use Rattle.script.specs.Names.{bytes_at}
-use Rattle.script.specs.Tokens.{letter, word_byte, blank, begins_with, spelt, or_else, kind_or, reserved, name_kind, word_kind, word_piece, token_piece, piece, sort_words, binder_words, part_words, first_words}
+use Rattle.script.specs.Tokens.{letter, word_byte, blank, begins_with, spelt, reserved, name_kind, word_kind, word_piece, token_piece, piece, sort_words, binder_words, part_words, first_words}
 use Rattle.script.specs.Parts.{parts, parts_from, line_start, with_lexeme, lexemes, lexemes_from}
 use Rattle.script.specs.Statements.{is_name}
 use Rattle.grammar.specs.Text.{GoodName}
@@ -25,7 +26,7 @@ spelt_no_name : (rows : List (List ℕ × Kind)) (w : List ℕ) → AllByRecursi
 spelt_no_name [] w h = tt
 spelt_no_name (r ∷ rows) w h = cond_both (bytes_eq r.0 w) _ _ NoName (λ e. h.0) (λ e. spelt_no_name rows w h.1)
 
-or_no_name : (x y : Option Kind) → NoName x → NoName y → NoName (or_else x y)
+or_no_name : (x y : Option Kind) → NoName x → NoName y → NoName (option_or x y)
 or_no_name None y h k = k
 or_no_name (Some x) y h k = h
 
@@ -36,7 +37,7 @@ reserved_no_name w =
     (or_no_name (spelt part_words w) _ (spelt_no_name part_words w (refl, (refl, (refl, (refl, (refl, (refl, (refl, tt))))))))
     (spelt_no_name first_words w (refl, (refl, (refl, (refl, (refl, (refl, (refl, tt))))))))))
 
-free_word : (o : Option Kind) (k : Kind) → NoName o → kind_or o k ≡ Name → (o ≡ None) × (k ≡ Name)
+free_word : (o : Option Kind) (k : Kind) → NoName o → unwrap_or o k ≡ Name → (o ≡ None) × (k ≡ Name)
 free_word None k n e = (refl, e)
 free_word (Some x) k n e = absurd (both_ways _ n (ap is_name e))
 

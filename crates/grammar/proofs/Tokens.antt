@@ -1,5 +1,6 @@
 -- The scanner finds each token that a printed term has.
 use Rattle.std.proofs.Common.{◌≡◌, ℕ, suc, ◌^◌, ◌<◌, ◌≤◌, Bool, true, false, not, ◌&&◌, eqb, leb, List, [], ◌∷◌, ◌++◌, length, get_or, take, None, codes, decimal, refl, ap, ◌∙◌, arith}
+use Rattle.std.specs.Option.{unwrap_or}
 use lib.Seq.{take-append_seam}
 use Rattle.std.specs.Str.Parse.{AllDigits, digits_value}
 use Rattle.std.specs.Char.{is_ascii_alphabetic, is_ascii_digit}
@@ -13,7 +14,7 @@ use Rattle.script.specs.declared.token.Mark.{Mark}
 use Rattle.script.specs.declared.token.Kind.{Kind}
 use Rattle.script.specs.declared.token.Kind.TheVariants.{Name, Number, Fixed}
 use Rattle.script.specs.declared.token.Piece.{Piece}
-use Rattle.script.specs.Tokens.{letter, blank, word_byte, begins_with, reserved, kind_or, name_kind, word_kind, number_kind, token, token_piece, piece}
+use Rattle.script.specs.Tokens.{letter, blank, word_byte, begins_with, reserved, name_kind, word_kind, number_kind, token, token_piece, piece}
 use Rattle.grammar.specs.Words.{Token, name, number, mark, as_token}
 use Rattle.grammar.specs.Text.{binder_name, quiet, GoodName}
 use Rattle.grammar.proofs.Pieces.{spelled}
@@ -125,7 +126,7 @@ number_sound n r z l q =
     number_by (decimal n) r n q refl (all_digits (decimal n) d.0.1) (number_is (decimal n) n d.1 l (first_decimal n z (omega arith))) d.0.0
 
 name_is : (x : List ℕ) → reserved x ≡ None → length x ≤ 64 → bytes_eq x (codes "_") ≡ false → word_kind x ≡ Name
-name_is x e l u = ap (λ o. kind_or o (name_kind x)) e ∙ cond-true (leb (length x) 64 && not (bytes_eq x (codes "_"))) _ _ (and_from _ _ (le-leb (length x) 64 l) (ap not u))
+name_is x e l u = ap (λ o. unwrap_or o (name_kind x)) e ∙ cond-true (leb (length x) 64 && not (bytes_eq x (codes "_"))) _ _ (and_from _ _ (le-leb (length x) 64 l) (ap not u))
 
 pub name_sound : (x r : List ℕ) → quiet r ≡ true → GoodName x → Scans (name x) r
 name_sound [] r q g = absurd (both_ways _ refl g.letter_first)

@@ -1,5 +1,6 @@
 -- The runs of a list of lexemes, one after the other.
 use Rattle.std.proofs.Common.{◌≡◌, ℕ, ◌+◌, Bool, true, false, cond, ◌&&◌, List, [], ◌∷◌, length, get_or, is_some, Some, None, Option, refl, ap, ◌∙◌, ap₂, arith}
+use Rattle.std.specs.Option.{option_or}
 use Rattle.std.specs.Char.{is_ascii_alphabetic}
 use Rattle.std.proofs.lemmas.Bool.{both_ways, cond-true, cond-false, cond_both}
 use Rattle.script.specs.declared.token.Kind.{Kind}
@@ -7,7 +8,6 @@ use Rattle.script.specs.declared.token.Kind.TheVariants.{Name, Number, Fixed, Fi
 use Rattle.script.specs.Lexemes.{Lexeme}
 use Rattle.script.specs.declared.statement.StatementKind.{StatementKind}
 use Rattle.script.specs.declared.statement.Tally.{Tally}
-use Rattle.script.specs.Tokens.{or_else}
 use Rattle.script.specs.Statements.{statement_kind, first_word, onto, runs, start_of, wrong_at, first_wrong, head, enters, is_name, span, entered}
 use Rattle.script.specs.Walk.{none_yet, one_more, tally, until, from_next, begin_at}
 
@@ -43,16 +43,16 @@ runs_start s [] = refl
 runs_start s (l ∷ ls) = ap (start_of s) (runs_first l ls)
 
 -- the tally is the length and the first that is no token
-tally_is : (t : Tally) (ls : List Lexeme) → tally t ls ≡ record { tokens = t.tokens + length ls; wrong = or_else t.wrong (first_wrong ls) }
+tally_is : (t : Tally) (ls : List Lexeme) → tally t ls ≡ record { tokens = t.tokens + length ls; wrong = option_or t.wrong (first_wrong ls) }
 tally_is t [] = ap₂ (λ n w. record { tokens = n; wrong = w }) (omega arith) (none_right t.wrong)
   where
-    none_right : (o : Option ℕ) → o ≡ or_else o None
+    none_right : (o : Option ℕ) → o ≡ option_or o None
     none_right None = refl
     none_right (Some x) = refl
 tally_is t (l ∷ ls) =
     tally_is (one_more t l) ls ∙ ap₂ (λ n w. record { tokens = n; wrong = w }) (omega arith) (or_assoc t.wrong (wrong_at l) (first_wrong ls))
   where
-    or_assoc : (x y z : Option ℕ) → or_else (or_else x y) z ≡ or_else x (or_else y z)
+    or_assoc : (x y z : Option ℕ) → option_or (option_or x y) z ≡ option_or x (option_or y z)
     or_assoc None y z = refl
     or_assoc (Some x) y z = refl
 

@@ -1,5 +1,6 @@
 -- A step of the scanner over the parts of a script.
 use Rattle.std.proofs.Common.{◌≡◌, ℕ, zero, suc, pred, ◌+◌, ◌-◌, ◌<◌, ◌≤◌, Bool, true, false, ◌&&◌, ◌||◌, eqb, List, [], ◌∷◌, length, get_or, drop, Some, None, codes, Option, sym, refl, ap, ◌∙◌, subst, ap₂, arith, length-drop}
+use Rattle.std.specs.Option.{option_or, unwrap_or}
 use Rattle.std.specs.Char.{is_ascii_digit}
 use Rattle.std.specs.List.{prefix_len, AllByRecursion}
 use Rattle.std.proofs.lemmas.List.{get_or-drop, drop-drop}
@@ -7,7 +8,7 @@ use Rattle.std.proofs.lemmas.List.Sums.{prefix_len-le-length}
 use Rattle.std.proofs.lemmas.Bool.{both_ways, cond_both, or_left, and_parts, eqb-true, ne_eqb}
 use Rattle.script.specs.declared.token.Kind.{Kind}
 use Rattle.script.specs.declared.token.Piece.{Piece}
-use Rattle.script.specs.Tokens.{letter, word_byte, in_line, blank, begins_with, symbol, joining_symbols, single_symbols, piece_or, or_else, token_piece, piece, next_piece}
+use Rattle.script.specs.Tokens.{letter, word_byte, in_line, blank, begins_with, symbol, joining_symbols, single_symbols, token_piece, piece, next_piece}
 use Rattle.script.specs.Parts.{parts, placed, line_start, parts_from}
 
 -- a piece takes a byte, and none past the end
@@ -23,13 +24,13 @@ begins_fits (x ∷ w) [] e = absurd (both_ways false refl e)
 begins_fits (x ∷ w) (b ∷ bs) e = omega (arith, begins_fits w bs (and_parts (eqb x b) _ e).1)
 
 -- a table's symbols take a byte each
-symbol_fits : (ws : List (List ℕ × Kind)) (b : ℕ) (bs : List ℕ) (p : Piece) → AllByRecursion (λ (w : List ℕ × Kind). 0 < length w.0) ws → Fits (length bs) p → Fits (length bs) (piece_or (symbol ws (b ∷ bs)) p)
+symbol_fits : (ws : List (List ℕ × Kind)) (b : ℕ) (bs : List ℕ) (p : Piece) → AllByRecursion (λ (w : List ℕ × Kind). 0 < length w.0) ws → Fits (length bs) p → Fits (length bs) (unwrap_or (symbol ws (b ∷ bs)) p)
 symbol_fits [] b bs p h k = k
 symbol_fits (w ∷ ws) b bs p h k =
-    cond_both (begins_with w.0 (b ∷ bs)) _ _ (λ o. Fits (length bs) (piece_or o p))
+    cond_both (begins_with w.0 (b ∷ bs)) _ _ (λ o. Fits (length bs) (unwrap_or o p))
     (λ e. (h.0, begins_fits w.0 (b ∷ bs) e)) (λ e. symbol_fits ws b bs p h.1 k)
 
-or_fits : (n : ℕ) (x y : Option Piece) (p : Piece) → Fits n (piece_or x p) → Fits n (piece_or y p) → Fits n (piece_or (or_else x y) p)
+or_fits : (n : ℕ) (x y : Option Piece) (p : Piece) → Fits n (unwrap_or x p) → Fits n (unwrap_or y p) → Fits n (unwrap_or (option_or x y) p)
 or_fits n None y p h k = k
 or_fits n (Some q) y p h k = h
 

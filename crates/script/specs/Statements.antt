@@ -1,5 +1,6 @@
 -- The statements of a list of lexemes.
 use Rattle.std.specs.Prelude.{ℕ, Bool, true, false, cond, ◌&&◌, List, [], ◌∷◌, length, is_some, Some, None, Option, slice_index}
+use Rattle.std.specs.Option.{option_or}
 use Rattle.std.specs.Char.{is_ascii_alphabetic}
 use Rattle.script.specs.declared.token.FirstWord.{FirstWord}
 use Rattle.script.specs.declared.token.FirstWord.TheVariants.{DefWord, TheoremWord, LemmaWord, AxiomWord, ConstantWord, CheckWord, EvalWord}
@@ -10,7 +11,6 @@ use Rattle.script.specs.declared.statement.StatementKind.{StatementKind}
 use Rattle.script.specs.declared.statement.StatementKind.TheVariants.{Def, Axiom, Check, Eval}
 use Rattle.script.specs.declared.statement.Span.{Span}
 use Rattle.script.specs.declared.statement.Statement.{Statement}
-use Rattle.script.specs.Tokens.{or_else}
 use Rattle.script.specs.Parts.{lexemes_from}
 
 -- the seven first words
@@ -69,7 +69,7 @@ wrong_at l = cond (no_token l.kind) (Some l.at) None
 
 abbrev pub first_wrong : List Lexeme → Option ℕ
 first_wrong [] = None
-first_wrong (l ∷ ls) = or_else (wrong_at l) (first_wrong ls)
+first_wrong (l ∷ ls) = option_or (wrong_at l) (first_wrong ls)
 
 -- the name that a def or an axiom would enter: its second lexeme, if that is a name that begins with a letter
 abbrev pub enters : Option StatementKind → Bool

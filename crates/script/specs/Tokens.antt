@@ -1,5 +1,6 @@
 -- How tokens are written, and what a list of bytes begins with.
 use Rattle.std.specs.Prelude.{ℕ, Bool, true, false, cond, not, ◌&&◌, ◌||◌, List, [], ◌∷◌, length, take, Some, None, codes, Option, ◌==◌, nat_le}
+use Rattle.std.specs.Option.{option_or, unwrap_or}
 use Rattle.std.specs.Char.{is_ascii_digit, is_ascii_alphabetic}
 use Rattle.std.specs.Str.Parse.{digits_value}
 use Rattle.std.specs.List.{prefix_len}
@@ -63,23 +64,15 @@ abbrev pub spelt : List (List ℕ × Kind) → List ℕ → Option Kind
 spelt [] w = None
 spelt (x ∷ xs) w = cond (bytes_eq x.0 w) (Some x.1) (spelt xs w)
 
-abbrev pub or_else : {X : Type 0} → Option X → Option X → Option X
-or_else None y = y
-or_else (Some x) y = Some x
-
 abbrev pub reserved : List ℕ → Option Kind
-reserved w = or_else (spelt sort_words w) (or_else (spelt binder_words w) (or_else (spelt part_words w) (spelt first_words w)))
+reserved w = option_or (spelt sort_words w) (option_or (spelt binder_words w) (option_or (spelt part_words w) (spelt first_words w)))
 
 -- a word that is not reserved is a name of at most 64 bytes, but for `_`
 abbrev pub name_kind : List ℕ → Kind
 name_kind w = cond (nat_le (length w) 64 && not (bytes_eq w (codes "_"))) Name NoToken
 
-abbrev pub kind_or : Option Kind → Kind → Kind
-kind_or None k = k
-kind_or (Some x) k = x
-
 abbrev pub word_kind : List ℕ → Kind
-word_kind w = kind_or (reserved w) (name_kind w)
+word_kind w = unwrap_or (reserved w) (name_kind w)
 
 -- digits are a number to 65,535, with no needless zero in front
 abbrev pub number_kind : List ℕ → Kind
@@ -112,13 +105,9 @@ abbrev pub symbol : List (List ℕ × Kind) → List ℕ → Option Piece
 symbol [] bs = None
 symbol (x ∷ xs) bs = cond (begins_with x.0 bs) (Some (token x.1 (length x.0))) (symbol xs bs)
 
-abbrev pub piece_or : Option Piece → Piece → Piece
-piece_or None p = p
-piece_or (Some q) p = q
-
 -- a symbol, or one byte that is no token
 abbrev pub symbol_piece : List ℕ → Piece
-symbol_piece bs = piece_or (or_else (symbol joining_symbols bs) (symbol single_symbols bs)) (token NoToken 1)
+symbol_piece bs = unwrap_or (option_or (symbol joining_symbols bs) (symbol single_symbols bs)) (token NoToken 1)
 
 unfoldable pub token_piece : ℕ → List ℕ → Piece
 token_piece b bs =

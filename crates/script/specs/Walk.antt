@@ -1,15 +1,15 @@
 -- What the reader of a statement's lexemes counts, lexeme by lexeme.
 use Rattle.std.specs.Prelude.{ℕ, ◌+◌, cond, List, [], ◌∷◌, length, None}
+use Rattle.std.specs.Option.{option_or}
 use Rattle.script.specs.Lexemes.{Lexeme}
 use Rattle.script.specs.declared.statement.Tally.{Tally}
-use Rattle.script.specs.Tokens.{or_else}
 use Rattle.script.specs.Statements.{first_word, wrong_at}
 
 abbrev pub none_yet : Tally
 none_yet = record { tokens = 0; wrong = None }
 
 abbrev pub one_more : Tally → Lexeme → Tally
-one_more t l = record { tokens = t.tokens + 1; wrong = or_else t.wrong (wrong_at l) }
+one_more t l = record { tokens = t.tokens + 1; wrong = option_or t.wrong (wrong_at l) }
 
 abbrev pub tally : Tally → List Lexeme → Tally
 tally t [] = t

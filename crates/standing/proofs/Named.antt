@@ -1,5 +1,6 @@
 -- The statement that comes next by its words: its kind, the new name that it enters, and low numbers.
 use Rattle.std.proofs.Common.{◌≡◌, ℕ, zero, suc, pred, ◌+◌, ◌≤◌, Bool, true, false, not, ◌&&◌, eqb, leb, List, [], ◌∷◌, get_or, take, drop, Some, None, codes, Option, sym, refl, ap, ◌∙◌, arith}
+use Rattle.std.specs.Option.{option_or, unwrap_or}
 use Rattle.std.specs.Str.Parse.{digits_value}
 use Rattle.std.specs.Char.{is_ascii_alphabetic, is_ascii_digit, digit_value}
 use Rattle.std.specs.List.{prefix_len, AllByRecursion}
@@ -16,7 +17,7 @@ use Rattle.script.specs.declared.statement.Statement.{Statement}
 use Rattle.script.specs.Names.{bytes_at}
 use Rattle.script.specs.Parts.{parts, parts_from, line_start, with_lexeme, lexemes, lexemes_from}
 use Rattle.script.specs.Statements.{statement_kind, first_word, runs, enters, is_name, head, span, entered, summary, start_of, summaries, statements_from}
-use Rattle.script.specs.Tokens.{letter, word_byte, blank, begins_with, spelt, or_else, kind_or, reserved, name_kind, word_kind, number_kind, symbol, piece_or, token_piece, token, piece, sort_words, binder_words, part_words, first_words, joining_symbols, single_symbols}
+use Rattle.script.specs.Tokens.{letter, word_byte, blank, begins_with, spelt, reserved, name_kind, word_kind, number_kind, symbol, token_piece, token, piece, sort_words, binder_words, part_words, first_words, joining_symbols, single_symbols}
 use Rattle.script.specs.Walk.{until, from_next}
 use Rattle.script.proofs.Runs.{runs_first}
 use Rattle.term.specs.Term.{Term}
@@ -143,7 +144,7 @@ spelt_low : (rows : List (List ℕ × Kind)) (w : List ℕ) → AllByRecursion (
 spelt_low [] w h = tt
 spelt_low (r ∷ rows) w h = cond_both (bytes_eq r.0 w) _ _ LowIf (λ e. h.0) (λ e. spelt_low rows w h.1)
 
-or_low : (x y : Option Kind) → LowIf x → LowIf y → LowIf (or_else x y)
+or_low : (x y : Option Kind) → LowIf x → LowIf y → LowIf (option_or x y)
 or_low None y h k = k
 or_low (Some x) y h k = h
 
@@ -154,7 +155,7 @@ reserved_low w =
     (or_low (spelt part_words w) _ (spelt_low part_words w (tt, (tt, (tt, (tt, (tt, (tt, (tt, tt))))))))
     (spelt_low first_words w (tt, (tt, (tt, (tt, (tt, (tt, (tt, tt))))))))))
 
-or_kind : (o : Option Kind) (k : Kind) → LowIf o → LowKind k → LowKind (kind_or o k)
+or_kind : (o : Option Kind) (k : Kind) → LowIf o → LowKind k → LowKind (unwrap_or o k)
 or_kind None k h i = i
 or_kind (Some x) k h i = h
 
@@ -180,7 +181,7 @@ symbol_low : (rows : List (List ℕ × Kind)) (bs : List ℕ) → AllByRecursion
 symbol_low [] bs h = tt
 symbol_low (r ∷ rows) bs h = cond_both (begins_with r.0 bs) _ _ LowPiece (λ e. h.0) (λ e. symbol_low rows bs h.1)
 
-or_symbol : (x y : Option Piece) → LowPiece x → LowPiece y → LowIf (piece_or (or_else x y) (token NoToken 1)).kind
+or_symbol : (x y : Option Piece) → LowPiece x → LowPiece y → LowIf (unwrap_or (option_or x y) (token NoToken 1)).kind
 or_symbol None None h k = tt
 or_symbol None (Some y) h k = k
 or_symbol (Some x) y h k = h
