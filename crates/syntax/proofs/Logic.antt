@@ -226,15 +226,15 @@ module _ {c : ℕ} {x : Now} {r r' : Ahead} {es : List Span} {s : Scope} {a : Ar
   pub called : {f : Name → Steps} {u : Steps} {n : Span} → Leads c x (at r es s a) p (a_name f u) → Names r r' (Some n) → Leads (c + 2) x (at r' es s a) p (f (span_bytes (text x.ahead) n))
   called {f} {u} {n} l h =
       then l (record {
-        moves = looks es s a h.same h.end (omega (arith, named_fewer (left r) (left r') (span_bytes (text r) n) (sym h.name) h.rest));
-        leads = λ z g. named (sym h.name) (subst (λ t. Follows (entries (at r es s a)) (end (at r es s a)) (f (span_bytes t n)) (past (left r)) z) (sym l.moves.text) (subst (λ ws. Follows (entries (at r es s a)) (end (at r es s a)) (f (span_bytes (text x.ahead) n)) ws z) h.rest g));
+        moves = looks es s a h.same h.end (omega (arith, named_fewer (left r) (left r') (span_bytes (text r) n) (sym h.found) h.rest));
+        leads = λ z g. named (sym h.found) (subst (λ t. Follows (entries (at r es s a)) (end (at r es s a)) (f (span_bytes t n)) (past (left r)) z) (sym l.moves.text) (subst (λ ws. Follows (entries (at r es s a)) (end (at r es s a)) (f (span_bytes (text x.ahead) n)) ws z) h.rest g));
       })
 
   pub uncalled : {f : Name → Steps} {u : Steps} → Leads c x (at r es s a) p (a_name f u) → Names r r' None → Leads (c + 0) x (at r' es s a) p u
   uncalled {f} {u} l h =
       then l (record {
         moves = looks es s a h.same h.end (omega (arith, ap length h.rest));
-        leads = λ z g. nameless (sym h.name) (subst (λ ws. Follows (entries (at r es s a)) (end (at r es s a)) u ws z) h.rest g);
+        leads = λ z g. nameless (sym h.found) (subst (λ ws. Follows (entries (at r es s a)) (end (at r es s a)) u ws z) h.rest g);
       })
 
   pub bound : {f : Name → Steps} {n : Span} → Leads c x (at r es s a) p (binder f) → Calls r r' (Ok n) → Leads (c + 2) x (at r' es s a) p (f (span_bytes (text x.ahead) n))
@@ -247,15 +247,15 @@ module _ {c : ℕ} {x : Now} {r r' : Ahead} {es : List Span} {s : Scope} {a : Ar
   pub counted : {f : ℕ → Steps} {n : ℕ} → Leads c x (at r es s a) p (a_number f) → Counts r r' (Ok n) → Leads (c + 2) x (at r' es s a) p (f n)
   counted {f} {n} l h =
       then l (record {
-        moves = looks es s a h.fits.same h.fits.end (omega (arith, numbered_fewer (left r) (left r') n (sym h.fits.number) h.fits.rest));
-        leads = λ z g. numbered (sym h.fits.number) (subst (λ ws. Follows (entries (at r es s a)) (end (at r es s a)) (f n) ws z) h.fits.rest g);
+        moves = looks es s a h.fits.same h.fits.end (omega (arith, numbered_fewer (left r) (left r') n (sym h.fits.found) h.fits.rest));
+        leads = λ z g. numbered (sym h.fits.found) (subst (λ ws. Follows (entries (at r es s a)) (end (at r es s a)) (f n) ws z) h.fits.rest g);
       })
 
   pub uncounted : {f : ℕ → Steps} {e : SyntaxFault} → Leads c x (at r es s a) p (a_number f) → Counts r r' (Err e) → Stopped x (at r' es s a) p e
   uncounted {f} {e} l h =
       halt l (record {
         moves = looks es s a h.fits.0.same h.fits.0.end (omega (arith, ap length h.fits.0.rest));
-        follows = subst (λ (v : SyntaxFault). Follows (entries (at r es s a)) (end (at r es s a)) (a_number f) (left r) (refusal (fault_number v) (fault_place v))) (sym h.fits.1) (numberless (sym h.fits.0.number));
+        follows = subst (λ (v : SyntaxFault). Follows (entries (at r es s a)) (end (at r es s a)) (a_number f) (left r) (refusal (fault_number v) (fault_place v))) (sym h.fits.1) (numberless (sym h.fits.0.found));
       })
 
 binders_same : {d : ℕ} {x y : Now} → Moves d x y → binders y ≡ binders x
@@ -415,10 +415,10 @@ chosen_fewer : {V : Type 0} (rows : List (Mark × V)) (ws us : List Word) (v : V
 chosen_fewer rows [] us v t e = absurd (none-some _ t)
 chosen_fewer rows (w ∷ ws) us v t e = omega (arith, ap length e)
 
-module _ {c : ℕ} {x : Now} {r r' : Ahead} {es : List Span} {s : Scope} {a : Arena} {p : Steps} {V : Type 0} {P : Lexeme → Option V → Type 0} (rows : List (Mark × V)) (f : V → Steps) where
+module _ {c : ℕ} {x : Now} {r r' : Ahead} {es : List Span} {s : Scope} {a : Arena} {p : Steps} {V : Type 0} (rows : List (Mark × V)) (f : V → Steps) (P : Lexeme → Option V → Type 0) where
   pub chose : (u : Steps) (v : V) → Leads c x (at r es s a) p (choosing rows f u) → Takes P r r' (Some v) → ((l : Lexeme) → P l (Some v) → (y : List ℕ) → Some v ≡ chosen rows (as_token l.kind y)) → Leads (c + 2) x (at r' es s a) p (f v)
   chose u v l h g =
-      let is = sym (picked rows r (Some v) h.picked g) in
+      let is = sym (picked rows r (Some v) h.found g) in
       then l (record {
         moves = looks es s a h.same h.end (omega (arith, chosen_fewer rows (left r) (left r') v is h.rest));
         leads = λ z k. table_fits rows (entries (at r es s a)) r.end f u (left r) v z is (subst (λ ws. Follows (entries (at r es s a)) r.end (f v) ws z) h.rest k);
@@ -428,7 +428,7 @@ module _ {c : ℕ} {x : Now} {r r' : Ahead} {es : List Span} {s : Scope} {a : Ar
   chose_none u l h g =
       then l (record {
         moves = looks es s a h.same h.end (omega (arith, ap length h.rest));
-        leads = λ z k. table_misses rows (entries (at r es s a)) r.end f u (left r) z (sym (picked rows r None h.picked g)) (subst (λ ws. Follows (entries (at r es s a)) r.end u ws z) h.rest k);
+        leads = λ z k. table_misses rows (entries (at r es s a)) r.end f u (left r) z (sym (picked rows r None h.found g)) (subst (λ ws. Follows (entries (at r es s a)) r.end u ws z) h.rest k);
       })
 
 -- what stands for the row of a table that the next word is

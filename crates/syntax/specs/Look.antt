@@ -35,9 +35,13 @@ abbrev pub is_nil : {X : Type 0} → List X → Bool
 is_nil [] = true
 is_nil (x ∷ xs) = false
 
--- the next lexeme is passed if it is picked
-pub record Takes {T : Type 0} (P : Lexeme → Option T → Type 0) (r r' : Ahead) (o : Option T) : Type 0 where
+-- a value is looked for in the next word, which is passed if it is there
+pub record Looks {V : Type 0} (P : Option V → Type 0) (r r' : Ahead) (o : Option V) : Type 0 where
   pub same : text r' ≡ text r
   pub end : r'.end ≡ r.end
-  pub picked : MatchOption r.next (o ≡ None) (λ l. P l o)
+  pub found : P o
   pub rest : left r' ≡ cond (is_some o) (past (left r)) (left r)
+
+-- what is picked of the next lexeme
+abbrev pub Takes : {V : Type 0} → (Lexeme → Option V → Type 0) → Ahead → Ahead → Option V → Type 0
+Takes P r r' o = Looks (λ v. MatchOption r.next (v ≡ None) (λ l. P l v)) r r' o

@@ -1,6 +1,6 @@
 -- What the functions of the parser do: by steps of the grammar they lead from one state of reading to
 -- another, or end in a refusal.
-use Rattle.std.specs.Prelude.{◌≡◌, ℕ, ◌+◌, ◌*◌, ◌<◌, ◌≤◌, Bool, true, false, cond, List, [], ◌∷◌, ◌++◌, length, take, is_some, Some, None, Ok, Err, vec_items, vec_len, Option, Result}
+use Rattle.std.specs.Prelude.{◌≡◌, ℕ, ◌+◌, ◌*◌, ◌<◌, ◌≤◌, Bool, true, false, cond, List, [], ◌∷◌, ◌++◌, length, take, Some, None, Ok, Err, vec_items, vec_len, Option, Result}
 use Rattle.script.specs.declared.statement.Span.{Span}
 use Rattle.script.specs.declared.token.Mark.{Mark}
 use Rattle.script.specs.declared.token.Mark.TheVariants.{Colon, Becomes, Comma, ClosesBrace, Bar, EndWord, Opens, OpensBrace, MatchWord, Arrow, InWord}
@@ -19,7 +19,7 @@ use Rattle.syntax.specs.declared.parser.Parser.{Parser}
 use Rattle.syntax.specs.declared.fault.SyntaxFault.{SyntaxFault}
 use Rattle.syntax.specs.declared.fault.SyntaxFault.TheVariants.{Misfit, UnknownName}
 use Rattle.syntax.specs.Faults.{fault_number, fault_place}
-use Rattle.syntax.specs.Look.{text, left, span_bytes, name_bytes}
+use Rattle.syntax.specs.Look.{text, left, span_bytes, name_bytes, Looks}
 use Rattle.syntax.specs.Scopes.{opened, entry_names}
 
 -- a state of reading: the words to come, the names of the entries, the open binders and the cells
@@ -98,32 +98,29 @@ pub record Eats (m : Mark) (r r' : Ahead) (b : Bool) : Type 0 where
   pub rest : left r' ≡ cond b (past (left r)) (left r)
 
 -- the next word is a name, and is passed then
-pub record Names (r r' : Ahead) (o : Option Span) : Type 0 where
-  pub same : text r' ≡ text r
-  pub end : r'.end ≡ r.end
-  pub name : name_bytes (text r) o ≡ next_name (left r)
-  pub rest : left r' ≡ cond (is_some o) (past (left r)) (left r)
+abbrev pub Names : Ahead → Ahead → Option Span → Type 0
+Names r r' = Looks (λ o. name_bytes (text r) o ≡ next_name (left r)) r r'
 
 -- the next word is a number, and is passed then
-pub record Numbers (r r' : Ahead) (o : Option ℕ) : Type 0 where
-  pub same : text r' ≡ text r
-  pub end : r'.end ≡ r.end
-  pub number : o ≡ next_number (left r)
-  pub rest : left r' ≡ cond (is_some o) (past (left r)) (left r)
+abbrev pub Numbers : Ahead → Ahead → Option ℕ → Type 0
+Numbers r r' = Looks (λ o. o ≡ next_number (left r)) r r'
 
 -- a value was looked for, or what stands there does not fit
 abbrev pub Fitting : {V : Type 0} → Ahead → (V → Type 0) → Type 0 → Result V SyntaxFault → Type 0
 Fitting r P Q (Ok v) = P v
 Fitting r P Q (Err e) = Q × (e ≡ Misfit (here r.end (left r)))
 
-pub record Expects (m : Mark) (r r' : Ahead) (t : Result (Unit {0}) SyntaxFault) : Type 0 where
-  pub fits : Fitting r (λ _. Eats m r r' true) (Eats m r r' false) t
+pub record Fits {V : Type 0} (r : Ahead) (P : V → Type 0) (Q : Type 0) (t : Result V SyntaxFault) : Type 0 where
+  pub fits : Fitting r P Q t
 
-pub record Calls (r r' : Ahead) (t : Result Span SyntaxFault) : Type 0 where
-  pub fits : Fitting r (λ n. Names r r' (Some n)) (Names r r' None) t
+abbrev pub Expects : Mark → Ahead → Ahead → Result (Unit {0}) SyntaxFault → Type 0
+Expects m r r' = Fits r (λ _. Eats m r r' true) (Eats m r r' false)
 
-pub record Counts (r r' : Ahead) (t : Result ℕ SyntaxFault) : Type 0 where
-  pub fits : Fitting r (λ n. Numbers r r' (Some n)) (Numbers r r' None) t
+abbrev pub Calls : Ahead → Ahead → Result Span SyntaxFault → Type 0
+Calls r r' = Fits r (λ n. Names r r' (Some n)) (Names r r' None)
+
+abbrev pub Counts : Ahead → Ahead → Result ℕ SyntaxFault → Type 0
+Counts r r' = Fits r (λ n. Numbers r r' (Some n)) (Numbers r r' None)
 
 -- "(" x ":" A ")" was read, before any steps f
 abbrev pub TypedBinderFound : Now → Now → Result (Span × ℕ) SyntaxFault → Type 0

@@ -11,13 +11,13 @@ use Rattle.syntax.proofs.Logic.{start, halt, then_part, halt_part, gave, built, 
 use Rattle.syntax.proofs.parser.Parser.+parse.Goals as goal
 
 pub expr-returns-clause-parsed : goal.expr-returns-clause-parsed
-expr-returns-clause-parsed t c = rest_is (λ p sc. arrow_steps sc) {at = 0} _ refl (missed (chose_none quantifiers (quantified_at (now c.args.self.now)) _ (missed (start (now c.args.self.now) _) c.if-eat.ensures) c.in_default.ensures (λ l h. search rules)) c.if-eat-2.ensures) c.arrow.ensures.parsed (omega arith)
+expr-returns-clause-parsed t c = rest_is (λ p sc. arrow_steps sc) {at = 0} _ refl (missed (chose_none quantifiers (quantified_at (now c.args.self.now)) _ _ (missed (start (now c.args.self.now) _) c.if-eat.ensures) c.in_default.ensures (λ l h. search rules)) c.if-eat-2.ensures) c.arrow.ensures.parsed (omega arith)
 
 pub expr-returns-in-Some-clause-parsed : goal.expr-returns-in-Some-clause-parsed
-expr-returns-in-Some-clause-parsed t c = rest_is (λ p sc. bound_steps p c.in-Some.binary Comma sc) _ c.here-place.ensures (chose quantifiers (quantified_at (now c.args.self.now)) _ c.in-Some.binary (missed (start (now c.args.self.now) _) c.if-eat.ensures) c.in-Some.ensures (λ l h. search rules)) c.bound.ensures.parsed (omega arith)
+expr-returns-in-Some-clause-parsed t c = rest_is (λ p sc. bound_steps p c.in-Some.binary Comma sc) _ c.here-place.ensures (chose quantifiers (quantified_at (now c.args.self.now)) _ _ c.in-Some.binary (missed (start (now c.args.self.now) _) c.if-eat.ensures) c.in-Some.ensures (λ l h. search rules)) c.bound.ensures.parsed (omega arith)
 
 pub expr-returns-then-eat-2-clause-parsed : goal.expr-returns-then-eat-2-clause-parsed
-expr-returns-then-eat-2-clause-parsed t c = rest_is (λ p sc. lets sc p) _ c.here-place.ensures (ate (chose_none quantifiers (quantified_at (now c.args.self.now)) _ (missed (start (now c.args.self.now) _) c.if-eat.ensures) c.in_default.ensures (λ l h. search rules)) c.if-eat-2.ensures) c.lets.ensures.parsed (omega arith)
+expr-returns-then-eat-2-clause-parsed t c = rest_is (λ p sc. lets sc p) _ c.here-place.ensures (ate (chose_none quantifiers (quantified_at (now c.args.self.now)) _ _ (missed (start (now c.args.self.now) _) c.if-eat.ensures) c.in_default.ensures (λ l h. search rules)) c.if-eat-2.ensures) c.lets.ensures.parsed (omega arith)
 
 pub expr-returns-then-eat-clause-parsed : goal.expr-returns-then-eat-clause-parsed
 expr-returns-then-eat-clause-parsed t c = rest_is (λ p sc. functions sc p) _ c.here-place.ensures (ate (start (now c.args.self.now) _) c.if-eat.ensures) c.func.ensures.parsed (omega arith)
@@ -161,13 +161,13 @@ pub prods-returns-then-not-eat-clause-parsed : goal.prods-returns-then-not-eat-c
 prods-returns-then-not-eat-clause-parsed t c = record { found = gave (missed (then_part no_names (start (now c.args.self.now) _) c.in_ok-e.ensures.parsed.found) c.if-not-eat.ensures) refl c.in_ok-e.ensures.parsed.found.within (omega arith) }
 
 pub app-returns-clause-parsed : goal.app-returns-clause-parsed
-app-returns-clause-parsed t c = tail_part no_names _ (then_part no_names (chose_none heads (headed_at (now c.args.self.now)) _ (start (now c.args.self.now) _) c.in_default.ensures (λ l h. search rules)) c.in_ok-e.ensures.parsed.found) c.apply.ensures.parsed (omega arith)
+app-returns-clause-parsed t c = tail_part no_names _ (then_part no_names (chose_none heads (headed_at (now c.args.self.now)) _ _ (start (now c.args.self.now) _) c.in_default.ensures (λ l h. search rules)) c.in_ok-e.ensures.parsed.found) c.apply.ensures.parsed (omega arith)
 
 pub app-returns-in-Some-clause-parsed : goal.app-returns-in-Some-clause-parsed
-app-returns-in-Some-clause-parsed t c = rest_is (λ p sc. headed sc (unary p c.in-Some.unary)) _ c.here-place.ensures (chose heads (headed_at (now c.args.self.now)) _ c.in-Some.unary (start (now c.args.self.now) _) c.in-Some.ensures (λ l h. search rules)) c.headed.ensures.parsed (omega arith)
+app-returns-in-Some-clause-parsed t c = rest_is (λ p sc. headed sc (unary p c.in-Some.unary)) _ c.here-place.ensures (chose heads (headed_at (now c.args.self.now)) _ _ c.in-Some.unary (start (now c.args.self.now) _) c.in-Some.ensures (λ l h. search rules)) c.headed.ensures.parsed (omega arith)
 
 pub app-returns-in_err-e-clause-parsed : goal.app-returns-in_err-e-clause-parsed
-app-returns-in_err-e-clause-parsed t c = passed_on _ c.from_residual.ensures.1 (halt_part no_names (chose_none heads (headed_at (now c.args.self.now)) _ (start (now c.args.self.now) _) c.in_default.ensures (λ l h. search rules)) c.in_err-e.ensures.parsed.found)
+app-returns-in_err-e-clause-parsed t c = passed_on _ c.from_residual.ensures.1 (halt_part no_names (chose_none heads (headed_at (now c.args.self.now)) _ _ (start (now c.args.self.now) _) c.in_default.ensures (λ l h. search rules)) c.in_err-e.ensures.parsed.found)
 
 pub headed-returns-clause-parsed : goal.headed-returns-clause-parsed
 headed-returns-clause-parsed t c = tail_part no_names _ (like (ap (λ E. part (arguments E) (binders (now c.args.self.now)) give) (sym c.add-h.ensures.added.added.made)) (added {d = 0} (omega arith) (then_part no_names (start (now c.args.self.now) _) c.in_ok-e.ensures.parsed.found) c.add-h.ensures.added)) c.apply.ensures.parsed (omega arith)
@@ -185,22 +185,22 @@ pub apply-returns-then-not-begins-clause-parsed : goal.apply-returns-then-not-be
 apply-returns-then-not-begins-clause-parsed t c = record { found = gave (like (cond-false _ _ _ (sym c.if-not-begins.ensures)) (start (now c.args.self.now) _)) refl c.requires (omega arith) }
 
 pub atom-returns-clause-parsed : goal.atom-returns-clause-parsed
-atom-returns-clause-parsed t c = rest_is (λ p sc. bracket_steps p sc) _ c.here-place.ensures (missed (chose_none sorts (sort_at (now c.args.self.now)) _ (uncalled (start (now c.args.self.now) _) c.in_default.ensures) c.in_default-take.ensures (λ l h. search rules)) c.if-eat.ensures) c.bracket.ensures.parsed (omega arith)
+atom-returns-clause-parsed t c = rest_is (λ p sc. bracket_steps p sc) _ c.here-place.ensures (missed (chose_none sorts (sort_at (now c.args.self.now)) _ _ (uncalled (start (now c.args.self.now) _) c.in_default.ensures) c.in_default-take.ensures (λ l h. search rules)) c.if-eat.ensures) c.bracket.ensures.parsed (omega arith)
 
 pub atom-returns-in-Some-clause-parsed : goal.atom-returns-in-Some-clause-parsed
 atom-returns-in-Some-clause-parsed t c = record { found = built (meaning_then c.in-Some.x c.in_ok-node.node _ c.here-place.ensures (called (start (now c.args.self.now) _) c.in-Some.ensures) c.in_ok-node.ensures) c.add.ensures.added refl (omega arith) }
 
 pub atom-returns-in-Some-take-clause-parsed : goal.atom-returns-in-Some-take-clause-parsed
-atom-returns-in-Some-take-clause-parsed t c = record { found = built (chose sorts (sort_at (now c.args.self.now)) _ c.in-Some-take.n (uncalled (start (now c.args.self.now) _) c.in_default.ensures) c.in-Some-take.ensures (λ l h. search rules)) c.add-in-Some-take.ensures.added (ap (λ p. sort p c.in-Some-take.n) (sym c.here-place.ensures)) (omega arith) }
+atom-returns-in-Some-take-clause-parsed t c = record { found = built (chose sorts (sort_at (now c.args.self.now)) _ _ c.in-Some-take.n (uncalled (start (now c.args.self.now) _) c.in_default.ensures) c.in-Some-take.ensures (λ l h. search rules)) c.add-in-Some-take.ensures.added (ap (λ p. sort p c.in-Some-take.n) (sym c.here-place.ensures)) (omega arith) }
 
 pub atom-returns-in_err-n-clause-parsed : goal.atom-returns-in_err-n-clause-parsed
-atom-returns-in_err-n-clause-parsed t c = passed_on _ c.from_residual-in_err-n.ensures.1 (uncounted (ate (chose_none sorts (sort_at (now c.args.self.now)) _ (uncalled (start (now c.args.self.now) _) c.in_default.ensures) c.in_default-take.ensures (λ l h. search rules)) c.if-eat.ensures) c.in_err-n.ensures)
+atom-returns-in_err-n-clause-parsed t c = passed_on _ c.from_residual-in_err-n.ensures.1 (uncounted (ate (chose_none sorts (sort_at (now c.args.self.now)) _ _ (uncalled (start (now c.args.self.now) _) c.in_default.ensures) c.in_default-take.ensures (λ l h. search rules)) c.if-eat.ensures) c.in_err-n.ensures)
 
 pub atom-returns-in_err-node-clause-parsed : goal.atom-returns-in_err-node-clause-parsed
 atom-returns-in_err-node-clause-parsed t c = passed_on _ c.from_residual.ensures.1 (meaning_halt c.in-Some.x _ c.here-place.ensures (called (start (now c.args.self.now) _) c.in-Some.ensures) c.in_err-node.ensures)
 
 pub atom-returns-then-eat-clause-parsed : goal.atom-returns-then-eat-clause-parsed
-atom-returns-then-eat-clause-parsed t c = record { found = built (counted (ate (chose_none sorts (sort_at (now c.args.self.now)) _ (uncalled (start (now c.args.self.now) _) c.in_default.ensures) c.in_default-take.ensures (λ l h. search rules)) c.if-eat.ensures) c.in_ok-n.ensures) c.add-then-eat.ensures.added (ap (λ p. sort p c.in_ok-n.n) (sym c.here-place.ensures)) (omega arith) }
+atom-returns-then-eat-clause-parsed t c = record { found = built (counted (ate (chose_none sorts (sort_at (now c.args.self.now)) _ _ (uncalled (start (now c.args.self.now) _) c.in_default.ensures) c.in_default-take.ensures (λ l h. search rules)) c.if-eat.ensures) c.in_ok-n.ensures) c.add-then-eat.ensures.added (ap (λ p. sort p c.in_ok-n.n) (sym c.here-place.ensures)) (omega arith) }
 
 pub bracket-returns-clause-parsed : goal.bracket-returns-clause-parsed
 bracket-returns-clause-parsed t c = record { found = halt (missed (missed (missed (start (now c.args.self.now) _) c.if-eat.ensures) c.if-eat-2.ensures) c.if-eat-3.ensures) (misfits _ _ c.misfit.ensures) }
