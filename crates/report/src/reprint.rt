@@ -4,9 +4,9 @@ ghost use Rattle.report.specs.Lines.{Adds, line};
 ghost use Rattle.report.specs.Told.{IsTooLong};
 ghost use Rattle.report.specs.Reprint.{IsReprint, Cleared};
 
-use crate::lines::Lines;
+use crate::lines::{Lines, MOST_BYTES};
 use crate::refusal::Refusal;
-use crate::told::{Teller, told};
+use crate::told::{Teller, told, too_long};
 use printing::printer::print;
 use script::statement::{Span, Statement};
 use std::alloc::{AllocError, Global};
@@ -123,5 +123,8 @@ pub fn reprint_text(heap: Global, script: &[u8]) -> Result<Vec<u8>, AllocError>
     ensures long { 1000000 < length script.now → IfOk result (λ v. IsTooLong v.items) }
     ensures all { length script.now ≤ 1000000 → IfOk result (λ v. IsReprint script.now v.items) }
 {
+    if script.len() > MOST_BYTES {
+        return too_long(heap);
+    }
     told(heap, script, Reprint::new(heap, script)?)
 }

@@ -12,6 +12,18 @@ use std::alloc::{AllocError, Global};
 // The refusal of a script that is longer than the programs take.
 const TOO_LONG: usize = 13;
 
+// The one line of such a script.
+pub(crate) fn too_long(heap: Global) -> Result<Vec<u8>, AllocError>
+    ensures { IfOk result (λ v. IsTooLong v.items) }
+{
+    let mut lines = Lines {
+        bytes: Vec::new(heap),
+    };
+    lines.number(b"answer=", TOO_LONG)?;
+    Ok(lines.bytes)
+}
+
+// What tells of statements, one after another.
 pub(crate) trait Teller {
     // Whether, of the statement of this number, this text is told, and the teller is then so.
     ghost tells: { Self → ℕ → Statement → List ℕ → Self → Type 0 };
@@ -30,13 +42,12 @@ pub(crate) fn told<T: Teller + Drop>(
     ensures long { 1000000 < length script.now → IfOk result (λ v. IsTooLong v.items) }
     ensures all { length script.now ≤ 1000000 → IfOk result (λ v. TellsAll T.tells teller 1 (statements_from script.now 0) v.items) }
 {
+    if script.len() > MOST_BYTES {
+        return too_long(heap);
+    }
     let mut lines = Lines {
         bytes: Vec::new(heap),
     };
-    if script.len() > MOST_BYTES {
-        lines.number(b"answer=", TOO_LONG)?;
-        return Ok(lines.bytes);
-    }
     for (i, st) in Reader::new(script).statements().enumerate() {
         teller.tell(&mut lines, i + 1, &st)?;
     }
