@@ -29,7 +29,7 @@ use Rattle.normal.proofs.Steps as steps
 use Rattle.kernel.specs.declared.fault.Fault.{Fault}
 use Rattle.kernel.specs.declared.fault.Fault.TheVariants.{Spent, Refused}
 use Rattle.kernel.specs.Faults.{typing, passed, faulted}
-use Rattle.kernel.specs.Runs.{outcome, Judges, Ran, Leading, Leads, JudgesAt, Begins, pair, tips, sorted, none as none_of, unruled as unruled_at, meets_side}
+use Rattle.kernel.specs.Runs.{outcome, Judges, Ran, Leading, Leads, JudgesAt, Begins, Expects, pair, tips, sorted, none as none_of, unruled as unruled_at, meets_side}
 
 err_within : {A E : Type 0} (Q : E → Type 0) (P : A → Type 0) (r : Result A E) → IsErrAnd r Q → IfOk r P
 err_within Q P (Ok a) q = elim q [ ]
@@ -194,11 +194,12 @@ module _ {S : System} {R : List Entry} {w : Spot} where
   pub missing : {A X : Type 0} {m : Option X} {v : A → X} {tip : A → ℕ} {x : Arena} {f : Fault} → m ≡ None → f ≡ Refused (refusal OtherForm w) → Leads S R w (expect m) v tip x x (Err f)
   missing {x = x} e q = record { kept = still x; fair = omega arith; falls = omega arith; within = tt; went = λ k. rw (e, q) (steps.refuses refl) }
 
-  -- the parts, or the sort, that `ok_or` finds
-  pub parts_or : (b : Binary) (t : Term) {x : Arena} {f : Fault} (o : Option (ℕ × ℕ)) → parts b t ≡ both x o → over_both o ≤ cells_in x → f ≡ Refused (refusal OtherForm w) → Leads S R w (expect (parts b t)) (pair x) tips x x (ok_or o f)
-  parts_or b t None e l q = missing e q
-  parts_or b t (Some i) e l q = given e l
+  -- the parts that must be there, as they were found
+  pub expected : {p : ℕ} {r : Result (ℕ × ℕ) Fault} (b : Binary) (x : Arena) (i : ℕ) → w ≡ typing p → i < cells_in x → Expects x p b i r → Leads S R w (expect (parts b (term x i))) (pair x) tips x x r
+  expected {r = Ok s} b x i q l d = given d.0 (omega arith)
+  expected {r = Err f} b x i q l d = missing d.0 (d.1 ∙ ap (λ u. Refused (refusal OtherForm u)) (sym q))
 
+  -- the sort that `ok_or` finds
   pub sort_or : {m : Option ℕ} {x : Arena} {f : Fault} (o : Option ℕ) → o ≡ m → f ≡ Refused (refusal OtherForm w) → Leads S R w (expect m) sorted none_of x x (ok_or o f)
   sort_or None e q = missing (sym e) q
   sort_or (Some i) e q = given (sym e) (omega arith)
@@ -268,6 +269,11 @@ module _ {S : System} {R : List Entry} {w : Spot} where
   -- the only premises that a rule can be
   pub only : {c d : Premises} {x z : Arena} {r : Result ℕ Fault} → ◌≡◌ {A = Option Premises} (Some d) (Some c) → Ran S R w d x z r → Ran S R w c x z r
   only {c} {d} {x} {z} {r} q h = subst (λ a. Ran S R w a x z r) (let e : d ≡ c = cc in e) h
+
+-- the parts that `ok_or` finds
+pub parts_or : {p : ℕ} {f : Fault} (b : Binary) (x : Arena) (i : ℕ) (o : Option (ℕ × ℕ)) → parts b (term x i) ≡ both x o → over_both o ≤ i → f ≡ Refused (refusal OtherForm (typing p)) → Expects x p b i (ok_or o f)
+parts_or b x i None e l q = (e, q)
+parts_or b x i (Some s) e l q = (e, l)
 
 -- t is s under the binders of Γ, in the same system
 pub record Nested (S S' : System) (s t : Site) (y : Arena) (Γ : List Bound) : Type 0 where

@@ -1,5 +1,5 @@
 -- What a call of the code has shown of a judgement, of premises, or of the first of some premises.
-use Rattle.std.specs.Prelude.{ℕ, suc, ◌+◌, ◌<◌, ◌≤◌, max, List, IfOk, Some, None, Ok, Err, Option, Result}
+use Rattle.std.specs.Prelude.{◌≡◌, ℕ, suc, ◌+◌, ◌<◌, ◌≤◌, max, List, IfOk, Some, None, Ok, Err, Option, Result, MatchResult}
 use Rattle.term.specs.declared.arena.Arena.{Arena}
 use Rattle.term.specs.declared.node.Binary.{Binary}
 use Rattle.term.specs.declared.node.Unary.{Unary}
@@ -8,14 +8,16 @@ use Rattle.term.specs.declared.node.Binary.TheVariants.{Pi, Sigma, Exists, Typed
 use Rattle.term.specs.Term.{Term, sort, local, entry, unary, binary, choice}
 use Rattle.term.specs.Cells.{Bound}
 use Rattle.term.specs.State.{cells_in, term, Kept}
-use Rattle.rules.specs.Rules.{Judgement, Entry, Premises, gets, meets_left, meets_right}
-use Rattle.rules.specs.Derivation.{System, Spot}
+use Rattle.rules.specs.declared.refusal.Reason.TheVariants.{OtherForm}
+use Rattle.rules.specs.Rules.{Judgement, Entry, Premises, parts, gets, meets_left, meets_right}
+use Rattle.rules.specs.Derivation.{System, Spot, refusal}
 use Rattle.normal.specs.declared.look.Side.{Side}
 use Rattle.normal.specs.declared.look.Side.TheVariants.{First, Second}
 use Rattle.normal.specs.declared.site.Site.{Site}
 use Rattle.normal.specs.Views.{entries_at, context_at}
 use Rattle.normal.specs.Runs.{Outcome, Ends, Goes}
 use Rattle.kernel.specs.declared.fault.Fault.{Fault}
+use Rattle.kernel.specs.declared.fault.Fault.TheVariants.{Refused}
 use Rattle.kernel.specs.Faults.{typing, faulted}
 
 abbrev pub outcome : Arena → Result ℕ Fault → Outcome
@@ -78,6 +80,12 @@ Begins S s C v tip a b r = Leads S (entries_at s a) (typing s.place) (C (context
 -- the sort s is the answer, for a term at p
 abbrev pub sort_gets : ℕ → ℕ → Premises
 sort_gets p s = gets (sort p s)
+
+-- the parts of a term of the form b, else a refusal
+abbrev pub Expects : Arena → ℕ → Binary → ℕ → Result (ℕ × ℕ) Fault → Type 0
+Expects a p b i r =
+    MatchResult r (λ x. (parts b (term a i) ≡ Some (pair a x)) × (tips x ≤ i))
+    (λ f. (parts b (term a i) ≡ None) × (f ≡ Refused (refusal OtherForm (typing p))))
 
 -- an injection meets its side of a sum
 abbrev pub meets_side : Side → List Bound → Term → Term → Premises

@@ -8,7 +8,7 @@ ghost use Rattle.rules.specs.Derivation.{System, refusal};
 ghost use Rattle.normal.specs.Views.{Within, Enters, entries_at};
 ghost use Rattle.kernel.specs.declared.fault.Fault.TheVariants as fault;
 ghost use Rattle.kernel.specs.Faults.{typing};
-ghost use Rattle.kernel.specs.Runs.{Ran, Applies, Leads, pair, tips, unruled, sort_gets};
+ghost use Rattle.kernel.specs.Runs.{Ran, Applies, Leads, Expects, pair, tips, unruled, sort_gets};
 
 use crate::fault::{Fault, refused};
 use crate::typing::Typing;
@@ -87,8 +87,8 @@ impl<'a, S: SortSystem> Typing<'a, S> {
         id: usize,
     ) -> Result<(usize, usize), Fault>
         requires { id < cells_in arena.now }
-        ensures parts { (X : System) (es : List Entry) → Leads X es (typing self.now.site.place) (expect (parts form (term arena.now id))) (pair arena.now) tips arena.now arena.now result }
-        ensures low { IfOk result (λ x. tips x ≤ cells_in arena.now) }
+        ensures is { Expects arena.now self.now.site.place form id result }
+        ensures leads { (X : System) (es : List Entry) → Leads X es (typing self.now.site.place) (expect (parts form (term arena.now id))) (pair arena.now) tips arena.now arena.now result }
     {
         parts(arena, form, id).ok_or(self.refused(Reason::OtherForm))
     }

@@ -20,7 +20,7 @@ pub split-returns-in_err-kind : goal.split-returns-in_err-kind
 split-returns-in_err-kind g t c = halt_lead (λ T. expect (parts c.args.form T)) c.from_residual.ensures.1 (premised c.in_err-kind.ensures)
 
 pub split-returns : goal.split-returns
-split-returns g t c = then_lead (λ T. expect (parts c.args.form T)) (premised c.in_ok-kind.ensures) (c.expect.ensures.parts _ _)
+split-returns g t c = then_lead (λ T. expect (parts c.args.form T)) (premised c.in_ok-kind.ensures) (c.expect.ensures.leads _ _)
 
 pub arm-returns-in_err-inner : goal.arm-returns-in_err-inner
 arm-returns-in_err-inner g t c = barred_lead _ c.from_residual.ensures.1 c.in_err-inner.ensures.site
@@ -276,67 +276,67 @@ equal-returns-else-equal g t c =
     then (premised q) (unlike (λ n. when_false _ _ c.if-equal.false c.equal.ensures (n ∙ ap bare (sym e))) c.refused.ensures)
 
 pub fun-returns-in_err-domain : goal.fun-returns-in_err-domain
-fun-returns-in_err-domain g t c = halt c.from_residual.ensures.1 (c.in_err-domain.ensures.parts _ _)
+fun-returns-in_err-domain g t c = halt c.from_residual.ensures.1 (c.in_err-domain.ensures.leads _ _)
 
 pub fun-returns-in_err-inner : goal.fun-returns-in_err-inner
-fun-returns-in_err-inner g t c = then (c.in_ok-domain.ensures.parts _ _) (barred c.from_residual-in_err-inner.ensures.1 c.in_err-inner.ensures.site)
+fun-returns-in_err-inner g t c = then (c.in_ok-domain.ensures.leads _ _) (barred c.from_residual-in_err-inner.ensures.1 c.in_err-inner.ensures.site)
 
 pub fun-returns-in_err-check : goal.fun-returns-in_err-check
 fun-returns-in_err-check g t c =
     let i = c.in_ok-inner.ensures in
     let below = nested i.system i.site in
-    then (c.in_ok-domain.ensures.parts _ _) (enters i.site (halt c.from_residual-in_err-check.ensures.1 (inner {Y = Term × Term} (λ Γ E. premise (meets Γ E.0 E.1)) below refl (ap₂ (λ E T. (E, T)) (i.site.kept.trees c.args.a c.requires.a) (i.site.kept.trees c.in_ok-domain.codomain (omega (arith, c.in_ok-domain.ensures.low)))) i.site.kept c.requires.here (premised c.in_err-check.ensures))))
+    then (c.in_ok-domain.ensures.leads _ _) (enters i.site (halt c.from_residual-in_err-check.ensures.1 (inner {Y = Term × Term} (λ Γ E. premise (meets Γ E.0 E.1)) below refl (ap₂ (λ E T. (E, T)) (i.site.kept.trees c.args.a c.requires.a) (i.site.kept.trees c.in_ok-domain.codomain (omega (arith, c.in_ok-domain.ensures.is.1, c.requires.want)))) i.site.kept c.requires.here (premised c.in_err-check.ensures))))
 
 pub fun-returns : goal.fun-returns
 fun-returns g t c =
     let i = c.in_ok-inner.ensures in
     let below = nested i.system i.site in
-    then (c.in_ok-domain.ensures.parts _ _) (enters i.site (then (inner {Y = Term × Term} (λ Γ E. premise (meets Γ E.0 E.1)) below refl (ap₂ (λ E T. (E, T)) (i.site.kept.trees c.args.a c.requires.a) (i.site.kept.trees c.in_ok-domain.codomain (omega (arith, c.in_ok-domain.ensures.low)))) i.site.kept c.requires.here (premised c.in_ok-check.ensures)) (stays_there (on_to i.site.kept c.in_ok-check.ensures.kept) c.requires.want)))
+    then (c.in_ok-domain.ensures.leads _ _) (enters i.site (then (inner {Y = Term × Term} (λ Γ E. premise (meets Γ E.0 E.1)) below refl (ap₂ (λ E T. (E, T)) (i.site.kept.trees c.args.a c.requires.a) (i.site.kept.trees c.in_ok-domain.codomain (omega (arith, c.in_ok-domain.ensures.is.1, c.requires.want)))) i.site.kept c.requires.here (premised c.in_ok-check.ensures)) (stays_there (on_to i.site.kept c.in_ok-check.ensures.kept) c.requires.want)))
 
 pub pair-returns-in_err-first : goal.pair-returns-in_err-first
-pair-returns-in_err-first g t c = halt c.from_residual.ensures.1 (c.in_err-first.ensures.parts _ _)
+pair-returns-in_err-first g t c = halt c.from_residual.ensures.1 (c.in_err-first.ensures.leads _ _)
 
 pub pair-returns-in_err-check : goal.pair-returns-in_err-check
-pair-returns-in_err-check g t c = then (c.in_ok-first.ensures.parts _ _) (halt c.from_residual-in_err-check.ensures.1 (premised c.in_err-check.ensures))
+pair-returns-in_err-check g t c = then (c.in_ok-first.ensures.leads _ _) (halt c.from_residual-in_err-check.ensures.1 (premised c.in_err-check.ensures))
 
 pub pair-returns-in_err-filled : goal.pair-returns-in_err-filled
 pair-returns-in_err-filled g t c =
     let d = c.in_ok-check.ensures in
-    let q = put_as (d.kept.trees c.args.a c.requires.a) (d.kept.trees c.in_ok-first.second (omega (arith, c.in_ok-first.ensures.low))) c.in_err-filled.ensures in
-    then (c.in_ok-first.ensures.parts _ _) (then (premised d) (lacks c.from_residual-in_err-filled.ensures.1 q))
+    let q = put_as (d.kept.trees c.args.a c.requires.a) (d.kept.trees c.in_ok-first.second (omega (arith, c.in_ok-first.ensures.is.1, c.requires.want))) c.in_err-filled.ensures in
+    then (c.in_ok-first.ensures.leads _ _) (then (premised d) (lacks c.from_residual-in_err-filled.ensures.1 q))
 
 pub pair-returns-in_err-kind : goal.pair-returns-in_err-kind
 pair-returns-in_err-kind g t c =
     let d = c.in_ok-check.ensures in
-    let q = put_as (d.kept.trees c.args.a c.requires.a) (d.kept.trees c.in_ok-first.second (omega (arith, c.in_ok-first.ensures.low))) c.in_ok-filled.ensures in
-    then (c.in_ok-first.ensures.parts _ _) (then (premised d) (pays q (halt c.from_residual-in_err-kind.ensures.1 (fill_stopped c.in_ok-filled.filled (on_to d.kept q.kept) c.requires.here q.made.1 c.in_err-kind.ensures))))
+    let q = put_as (d.kept.trees c.args.a c.requires.a) (d.kept.trees c.in_ok-first.second (omega (arith, c.in_ok-first.ensures.is.1, c.requires.want))) c.in_ok-filled.ensures in
+    then (c.in_ok-first.ensures.leads _ _) (then (premised d) (pays q (halt c.from_residual-in_err-kind.ensures.1 (fill_stopped c.in_ok-filled.filled (on_to d.kept q.kept) c.requires.here q.made.1 c.in_err-kind.ensures))))
 
 pub pair-returns-in_err-check-2 : goal.pair-returns-in_err-check-2
 pair-returns-in_err-check-2 g t c =
     let d = c.in_ok-check.ensures in
-    let q = put_as (d.kept.trees c.args.a c.requires.a) (d.kept.trees c.in_ok-first.second (omega (arith, c.in_ok-first.ensures.low))) c.in_ok-filled.ensures in
+    let q = put_as (d.kept.trees c.args.a c.requires.a) (d.kept.trees c.in_ok-first.second (omega (arith, c.in_ok-first.ensures.is.1, c.requires.want))) c.in_ok-filled.ensures in
     let t = c.in_ok-kind.ensures in
     let m = on_to d.kept q.kept in
     let n = on_to m t.kept in
-    then (c.in_ok-first.ensures.parts _ _) (then (premised d) (pays q (then (form_filled c.in_ok-filled.filled m c.requires.here q.made.1 t) (halt c.from_residual-in_err-check-2.ensures.1 (again (λ Γ E. premise (meets Γ E (term c.norm.new.arena c.in_ok-kind.kind))) (n.trees c.args.b c.requires.b) n c.requires.here (premised c.in_err-check-2.ensures))))))
+    then (c.in_ok-first.ensures.leads _ _) (then (premised d) (pays q (then (form_filled c.in_ok-filled.filled m c.requires.here q.made.1 t) (halt c.from_residual-in_err-check-2.ensures.1 (again (λ Γ E. premise (meets Γ E (term c.norm.new.arena c.in_ok-kind.kind))) (n.trees c.args.b c.requires.b) n c.requires.here (premised c.in_err-check-2.ensures))))))
 
 pub pair-returns : goal.pair-returns
 pair-returns g t c =
     let d = c.in_ok-check.ensures in
-    let q = put_as (d.kept.trees c.args.a c.requires.a) (d.kept.trees c.in_ok-first.second (omega (arith, c.in_ok-first.ensures.low))) c.in_ok-filled.ensures in
+    let q = put_as (d.kept.trees c.args.a c.requires.a) (d.kept.trees c.in_ok-first.second (omega (arith, c.in_ok-first.ensures.is.1, c.requires.want))) c.in_ok-filled.ensures in
     let t = c.in_ok-kind.ensures in
     let m = on_to d.kept q.kept in
     let n = on_to m t.kept in
-    then (c.in_ok-first.ensures.parts _ _) (then (premised d) (pays q (then (form_filled c.in_ok-filled.filled m c.requires.here q.made.1 t) (then (again (λ Γ E. premise (meets Γ E (term c.norm.new.arena c.in_ok-kind.kind))) (n.trees c.args.b c.requires.b) n c.requires.here (premised c.in_ok-check-2.ensures)) (stays_there (on_to n c.in_ok-check-2.ensures.kept) c.requires.want)))))
+    then (c.in_ok-first.ensures.leads _ _) (then (premised d) (pays q (then (form_filled c.in_ok-filled.filled m c.requires.here q.made.1 t) (then (again (λ Γ E. premise (meets Γ E (term c.norm.new.arena c.in_ok-kind.kind))) (n.trees c.args.b c.requires.b) n c.requires.here (premised c.in_ok-check-2.ensures)) (stays_there (on_to n c.in_ok-check-2.ensures.kept) c.requires.want)))))
 
 pub injection-returns-in_err-sides : goal.injection-returns-in_err-sides
-injection-returns-in_err-sides g t c = at_side c.args.side (context_at c.args.self.now.site c.args.arena.now) (term c.args.arena.now c.args.a) (term c.args.arena.now c.args.want) (halt c.from_residual.ensures.1 (c.in_err-sides.ensures.parts _ _))
+injection-returns-in_err-sides g t c = at_side c.args.side (context_at c.args.self.now.site c.args.arena.now) (term c.args.arena.now c.args.a) (term c.args.arena.now c.args.want) (halt c.from_residual.ensures.1 (c.in_err-sides.ensures.leads _ _))
 
 pub injection-returns-in_err-check : goal.injection-returns-in_err-check
-injection-returns-in_err-check g t c = at_side c.args.side (context_at c.args.self.now.site c.args.arena.now) (term c.args.arena.now c.args.a) (term c.args.arena.now c.args.want) (then (c.in_ok-sides.ensures.parts _ _) (halt c.from_residual-in_err-check.ensures.1 (side_met c.args.side c.in_ok-sides.sides c.of.ensures (premised c.in_err-check.ensures))))
+injection-returns-in_err-check g t c = at_side c.args.side (context_at c.args.self.now.site c.args.arena.now) (term c.args.arena.now c.args.a) (term c.args.arena.now c.args.want) (then (c.in_ok-sides.ensures.leads _ _) (halt c.from_residual-in_err-check.ensures.1 (side_met c.args.side c.in_ok-sides.sides c.of.ensures (premised c.in_err-check.ensures))))
 
 pub injection-returns : goal.injection-returns
-injection-returns g t c = at_side c.args.side (context_at c.args.self.now.site c.args.arena.now) (term c.args.arena.now c.args.a) (term c.args.arena.now c.args.want) (then (c.in_ok-sides.ensures.parts _ _) (then (side_met c.args.side c.in_ok-sides.sides c.of.ensures (premised c.in_ok-check.ensures)) (stays_there c.in_ok-check.ensures.kept c.requires.want)))
+injection-returns g t c = at_side c.args.side (context_at c.args.self.now.site c.args.arena.now) (term c.args.arena.now c.args.a) (term c.args.arena.now c.args.want) (then (c.in_ok-sides.ensures.leads _ _) (then (side_met c.args.side c.in_ok-sides.sides c.of.ensures (premised c.in_ok-check.ensures)) (stays_there c.in_ok-check.ensures.kept c.requires.want)))
 
 pub infer-returns-in_err-spend : goal.infer-returns-in_err-spend
 infer-returns-in_err-spend g t c =

@@ -1,7 +1,10 @@
-use Rattle.std.proofs.Common.{arith}
-use Rattle.term.specs.State.{term}
-use Rattle.kernel.proofs.Logic.{parts_or}
+use Rattle.std.proofs.Common.{refl}
+use Rattle.kernel.specs.Runs.{Expects}
+use Rattle.kernel.proofs.Logic.{expected, parts_or}
 use Rattle.kernel.proofs.typing.Typing.expect.Goals as goal
 
-pub returns-clause-parts : goal.returns-clause-parts
-returns-clause-parts g c X es = rw c.ok_or.ensures.value (parts_or c.args.form (term c.args.arena.now c.args.id) c.parts.result c.parts.ensures.is (omega (arith, c.parts.ensures.low, c.requires)) c.refused.ensures)
+pub returns : goal.returns
+returns g c =
+    let a = c.args.arena.now in
+    let found : Expects a c.args.self.now.site.place c.args.form c.args.id c.ok_or.result = rw c.ok_or.ensures.value (parts_or c.args.form a c.args.id c.parts.result c.parts.ensures.is c.parts.ensures.low c.refused.ensures) in
+    record { is = found; leads = λ X es. expected c.args.form a c.args.id refl c.requires found }
