@@ -3,17 +3,14 @@ use Rattle.report.specs.Told.{TellsAll}
 use Rattle.script.specs.Left.{left}
 use Rattle.script.specs.Statements.{statements_from}
 use Rattle.report.proofs.Few.{counts_fit}
-use Rattle.report.proofs.Statements.{too_long_line, told, told_all}
+use Rattle.report.proofs.Statements.{told, told_all}
 use Rattle.report.proofs.told.told.Goals as goal
-
-pub returns-then-script-gt-MOST_BYTES-clause-long : goal.returns-then-script-gt-MOST_BYTES-clause-long
-returns-then-script-gt-MOST_BYTES-clause-long g c = λ h. too_long_line _ _ c.new.ensures.items c.in_ok-number.ensures
 
 pub loop-i-init-derived : goal.loop-i-init-derived
 loop-i-init-derived g c =
     let begun = c.into_iter-i-iterator.ensures.into_iter_gives in
     let count = ap (λ x. x.count) begun ∙ c.enumerate-i-items.ensures.count in
-    let sts = ap (λ x. left x.iter) begun ∙ ap left c.enumerate-i-items.ensures.source ∙ c.statements.ensures ∙ ap₂ statements_from c.new-2.ensures.start.0 c.new-2.ensures.start.1 in
+    let sts = ap (λ x. left x.iter) begun ∙ ap left c.enumerate-i-items.ensures.source ∙ c.statements.ensures.value ∙ ap₂ statements_from c.new-2.ensures.start.0 c.new-2.ensures.start.1 in
     ((tt, tt, inl (counts_fit c.args.script.now _ _ count sts c.if-script-gt-MOST_BYTES.false)), tt)
 
 pub loop-i-preserved : goal.loop-i-preserved
