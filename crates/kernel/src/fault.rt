@@ -9,7 +9,7 @@ use rules::refusal::{Layer, Reason, Refusal};
 use term::faults::Spent;
 
 // The budget does not suffice, or a rule refuses.
-#[derive(Clone, Copy)]
+#[derive(Clone, Copy, Debug, PartialEq, Eq)]
 pub enum Fault {
     Spent,
     Refused(Refusal),

@@ -24,7 +24,7 @@ pub struct Typing<'a, S> {
     pub system: &'a S,
 }
 
-// Stays: the parts of a term are indices of a fixed arena, so each contract says they are there.
+// Stays: sites nest and share one arena, so no site holds it, and each contract says what must be there.
 impl<'a, S: SortSystem> Typing<'a, S> {
     // The type that a term has.
     #[cycle(typing)]

@@ -127,6 +127,7 @@ fn arm_opens(arm: Arm) -> &'static [u8]
     }
 }
 
+// Stays: each lead is a row of one table, which the function names.
 pub(crate) fn match_lead() -> Lead<'static>
     ensures { piece_of result ≡ match_piece }
 {

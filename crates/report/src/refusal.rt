@@ -11,6 +11,7 @@ pub(crate) struct Refusal {
     pub(crate) place: Option<usize>,
 }
 
+// Stays: two enums of faults with numbers of their own; a trait over both would be the same two impls.
 impl From<ScriptFault> for Refusal {
     ghost use Rattle.report.specs.Refusal.{of_tokens};
 

@@ -32,6 +32,7 @@ pub struct Refusal {
 
 impl Reason {
     // The number by which a refusal is told.
+    // Stays: `reason.number()` says what it gives, and `u8::from(reason)` would not.
     pub fn number(self) -> u8
         ensures { result ≡ number self }
     {

@@ -68,6 +68,7 @@ fn number(w: &[u8]) -> Kind
 }
 
 // A word: every byte that could go on with it.
+// Stays: apart from a number, since one function would take the test and the judge as closures and be longer.
 fn word_piece(rest: &[u8]) -> Piece
     ensures { result ≡ word_piece rest.now }
 {

@@ -19,6 +19,7 @@ use term::node::{Binary, Node, Unary};
 const NO_NAME: Span = Span { at: 0, len: 0 };
 
 // What a lexeme quantifies by, if it begins such a form.
+// Stays: three tables of three types, a `match` each; as arrays they would need a search as well.
 fn quantifier(l: Lexeme) -> Option<Binary>
     ensures { (x : List ℕ) → result ≡ chosen quantifiers (as_token l.kind x) }
 {
@@ -174,6 +175,7 @@ impl Parser<'_> {
     }
 
     // sum ["->" E]
+    // Stays: apart from `sums` and `prods`, since both operands would be steps passed in, as at `prods_under`.
     #[cycle(parse)]
     fn arrow(&mut self) -> Result<usize, SyntaxFault>
         ensures parsed { AsSteps 1 arrow_steps (now self.old) (now self.new) result }
@@ -241,6 +243,7 @@ impl Parser<'_> {
     }
 
     // {atom}, the arguments of e
+    // Stays: an operand is an index of the arena, so a contract that takes one says that it is there.
     #[cycle(parse)]
     fn apply(&mut self, e: usize) -> Result<usize, SyntaxFault>
         requires { e < cells_in self.old.arena.now }
@@ -384,6 +387,7 @@ impl Parser<'_> {
     }
 
     // E under the binder x, which is closed again however that ends
+    // Stays: how many names are opened differs from call to call, so the room for them is asked for here.
     #[cycle(parse)]
     fn under(&mut self, x: Span) -> Result<usize, SyntaxFault>
         requires { HasRoomForNames 1 (now self.old) }

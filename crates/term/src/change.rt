@@ -57,6 +57,7 @@ impl Change for Lift {
 }
 
 // Lowers each local that points out of the tree by so much.
+// Stays: apart from `Lift`, since one struct for both would ask at each local which way it goes.
 #[derive(Clone, Copy)]
 pub struct Lower(pub u32);
 

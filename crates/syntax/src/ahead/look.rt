@@ -150,6 +150,7 @@ impl<'a> Ahead<'a> {
     }
 
     /// Passes the next word, which has to be a number.
+    // Stays: `binder` and `count` are two lines each, and one function for both would be no shorter.
     pub fn count(&mut self) -> Result<u16, SyntaxFault>
         ensures { Counts self.old self.new result }
     {

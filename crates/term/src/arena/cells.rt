@@ -64,6 +64,7 @@ impl Arena {
     }
 
     // One cell of a term more, which `spend` has paid for.
+    // Stays: where a node may stand is a fact of a node and an arena, so the type of neither keeps it.
     pub fn add(&mut self, node: Node) -> usize
         requires free { HasSpare self.old }
         requires fits { MayStandAt (cells_in self.old) (Part node) }

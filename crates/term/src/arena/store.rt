@@ -32,6 +32,7 @@ impl Arena {
     }
 
     // A copy of a value, if there is one.
+    // Stays: that the gap lies in the arena is a fact of both, so the type of neither keeps it.
     fn copy_value(&mut self, gap: Gap, value: Option<usize>) -> Result<Option<usize>, Spent>
         requires { HasGap self.old gap }
         ensures { LaysAll self.old self.new gap (bound value (term self.old)) result }
