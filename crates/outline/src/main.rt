@@ -7,5 +7,10 @@ use std::io;
 
 fn main(rt: HostRuntime) -> io::Result<()> {
     let heap = rt.alloc();
-    run(heap, rt.stdin(), &mut rt.stdout(), |script| outline_text(heap, script))
+    run(
+        heap,
+        rt.stdin(),
+        &mut rt.stdout(),
+        |script| outline_text(heap, script),
+    )
 }
