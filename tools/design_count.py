@@ -16,14 +16,14 @@ FILES = sorted(TOP.glob("crates/*/src/**/*.rt"))
 LINES = {
     1: [r"fn (code|number)\(&?self\)", r"\w+: bool\b", r"-> u8$"],
     3: [r"while .*[<>]=? ?[\w.]+ \{", r"for \w+ in 0\.\.", r"\bloop \{", r"(number|count|index|n|i) [-+]= 1\b",
-        r"number = number\b", r"\[\w+ [-+] \w+\]"],
+        r"number = number\b", r"\[[\w.]+ [-+] \w+\]"],
     4: [r"fn (same|same_name|starts|is_mark)\b", r"\.code\(\)", r"=> Err\((\w+::)?\w+\(fault\)\)",
         r"Err\(\w+::\w+\(fault\)\)", r"(None|Some\(_\)|Ok\(_\)|Err\(_\)) => (true|false)\b", r"^\s*at: l\.at", r"None => None\b",
         r"fn \w*statement_kind\(self\)", r"fn \w+_word\(", r"None => Err\(", r"Err\(_\) => Err\(|Err\(_\) => return Err\(",
         r"else \{\s*return None", r"if \w+ < [\w.]+\.len\(\) \{"],
     6: [r"out: &mut \[u8\]", r"^\s*(pub )?(pool|names|items|page|entries|out): Vec<", r"^\s*pub len: usize,$", r"= \[0u8; \d+\]",
         r"page: &mut Vec<u8>", r"^\s*(pub )?(kind|value|outer): Option<usize>,$", r"^\s*(One|Two|Match)\(usize"],
-    7: [r"\b(change|test|pen|level|arm): (Change|Test|Pen|Level|Arm)\b", r"fn \w+\(self, b: u8\) -> bool", r"if r\.eat\("],
+    7: [r"\b(change|test|pen|level|arm): (Change|Test|Pen|Level|Arm)\b", r"fn \w+\(self, b: u8\) -> bool", r"if !?(r|self\.words)\.eat\("],
 }
 
 

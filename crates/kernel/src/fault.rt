@@ -9,6 +9,7 @@ use rules::refusal::{Layer, Reason, Refusal};
 use term::faults::Spent;
 
 // The budget does not suffice, or a rule refuses.
+// Stays: apart from `Halt`, since one type for both would lose what a normal form can be refused for.
 #[derive(Clone, Copy, Debug, PartialEq, Eq)]
 pub enum Fault {
     Spent,

@@ -31,7 +31,7 @@ pub struct Claim<'a, S> {
     pub id: usize,
 }
 
-// Stays: a claim is about an arena that it does not hold, so each contract says what must be there.
+// Stays: the arena is lent for one judgement and kept by its owner, so each contract says what must be there.
 impl<'a, S: SortSystem> Claim<'a, S> {
     // Judges the statement, within what is left of the budget.
     pub fn judge(&self, arena: &mut Arena) -> Result<Stored, Fault>

@@ -41,6 +41,7 @@ pub(crate) fn unruled(arena: &Arena, id: usize) -> Option<usize>
     }
 }
 
+// Stays: a typing is at a site, which holds no arena, so each contract says what is there and what is paid for.
 impl<'a, S: SortSystem> Typing<'a, S> {
     // The same, for a term at `place`.
     pub(crate) fn at(&self, place: usize) -> Typing<'a, S>

@@ -24,7 +24,7 @@ pub struct Typing<'a, S> {
     pub system: &'a S,
 }
 
-// Stays: sites nest and share one arena, so no site holds it, and each contract says what must be there.
+// Stays: sites nest and share one arena, so no site holds it, and each contract says what is there and what is paid for.
 impl<'a, S: SortSystem> Typing<'a, S> {
     // The type that a term has.
     #[cycle(typing)]

@@ -6,7 +6,7 @@ use term::arena::Arena;
 use term::node::{Binary, Node, Unary};
 
 // One of two: the first or the second part of a pair, or the left or the right side of a sum.
-#[derive(Clone, Copy)]
+#[derive(Clone, Copy, Debug, PartialEq, Eq)]
 pub enum Side {
     First,
     Second,

@@ -12,7 +12,7 @@ use crate::site::Site;
 use term::arena::Arena;
 use term::node::{Binary, Node, Unary};
 
-// Stays: sites nest and share one arena, so no site holds it, and each contract says what must be there.
+// Stays: sites nest and share one arena, so no site holds it, and each contract says what is there and what is paid for.
 impl<'a> Site<'a> {
     ghost use Rattle.normal.specs.Views.{Within, gives_side};
     ghost use Rattle.normal.specs.Runs.{Normalises, Applies, Keeps};

@@ -87,6 +87,7 @@ impl<'a> Printer<'a> {
     }
 }
 
+// Stays: the bytes, the script and the names are lent by the caller for one call, as is the way of `Read::read`.
 /// Writes the text of the tree at `id` to the front of `out`, and tells its length. Where it does
 /// not fit nothing is written. The entries are named by these bytes of the script. What is printed
 /// reads back as the same tree, places aside, if its locals are bound and its entries have good names.

@@ -39,7 +39,7 @@ module _ (was : Reprint) (arena : Arena) (st : Statement) where
       let es = was.entries.items in
       let t = text (entry_names s es) 0 (term arena x.term) in
       subst (λ y. ReprintsOne s es n st (four_lines n None (fitting k t)) y) (sym f)
-      (subst (λ j. ReprintsOne s es n st (four_lines n None (fitting j t)) (es ++ option_to_list st.name)) (sym e) (reads read.reads))
+      (subst (λ j. ReprintsOne s es n st (four_lines n None (fitting j t)) (es ++ option_to_list st.name)) (sym e) (reads read.next read.tokens read.reads))
 
 module _ {E : Type 0} (was : Reprint) (scope : Scope) (arena : Arena) (n : ℕ) (st : Statement) {l₀ l₁ : List ℕ} (numbered : Appended l₀ (line (codes "statement=") (decimal n)) l₁) where
   pub accepted : (r : Result (Unit {0}) E) (names : List Span) (x : Sentence) (is : Reprint) (l₂ : List ℕ) → names ≡ was.entries.items → Reads was arena st names (Ok x) → OnOk r (Accepts (after_reading was scope arena) is x.term st.name l₁ l₂) → OnOk r (TellsOne Reprints was n st l₀ l₂ is)

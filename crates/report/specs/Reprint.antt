@@ -1,7 +1,8 @@
 -- The reprint of a script: four lines for each statement.
-use Rattle.std.specs.Prelude.{◌≡◌, ℕ, ◌+◌, min, cond, List, [], ◌∷◌, ◌++◌, length, Some, None, Option, option_to_list, codes, decimal, nat_lt, vec_len}
+use Rattle.std.specs.Prelude.{◌≡◌, ℕ, ◌+◌, min, cond, List, [], ◌∷◌, ◌++◌, length, Some, None, Ok, Option, option_to_list, codes, decimal, nat_lt, vec_len}
 use Rattle.script.specs.declared.statement.Span.{Span}
 use Rattle.script.specs.declared.statement.Statement.{Statement}
+use Rattle.script.specs.Faults.{token_check}
 use Rattle.script.specs.Statements.{statements_from}
 use Rattle.term.specs.declared.arena.Arena.{Arena}
 use Rattle.term.specs.State.{term, cells_in, Rewound}
@@ -11,7 +12,7 @@ use Rattle.grammar.specs.Statements.{States}
 use Rattle.grammar.specs.Text.{text}
 use Rattle.syntax.specs.declared.read.ReadFault.{ReadFault}
 use Rattle.syntax.specs.Scopes.{entry_names}
-use Rattle.syntax.specs.Reads.{RefusedFor, statement_words}
+use Rattle.syntax.specs.Reads.{RefusedFor, Next, statement_words}
 use Rattle.report.specs.declared.refusal.Refusal.{Refusal}
 use Rattle.report.specs.declared.reprint.Reprint.{Reprint}
 use Rattle.report.specs.Lines.{Appended, line, refusal_lines}
@@ -34,7 +35,7 @@ pub record Cleared (a : Arena) : Type 0 where
 -- what is told of a statement, against the entries es, and the entries after it: the term that the
 -- grammar reads from its words, or why there is none
 pub data ReprintsOne (s : List ℕ) (es : List Span) (n : ℕ) (st : Statement) : List ℕ → List Span → Type 0 where
-  reads : {end : ℕ} {t : Term} → States (entry_names s es) end (statement_words s (min st.at (length s))) (tree t []) → ReprintsOne s es n st (four_lines n None (fitting 1000000 (text (entry_names s es) 0 t))) (es ++ option_to_list st.name)
+  reads : {x : Statement} {t : Term} → Next s (min st.at (length s)) x → token_check x ≡ Ok tt → States (entry_names s es) x.end (statement_words s (min st.at (length s))) (tree t []) → ReprintsOne s es n st (four_lines n None (fitting 1000000 (text (entry_names s es) 0 t))) (es ++ option_to_list st.name)
   refuses : {a : Arena} (f : ReadFault) → Cleared a → RefusedFor s (min st.at (length s)) (entry_names s es) a f → ReprintsOne s es n st (four_lines n (Some (of_reading f)) (codes "-")) es
 
 -- what is told of the statements in turn, numbered from n on, against the entries es and those entered since

@@ -15,7 +15,7 @@ struct Outline<'a> {
     script: &'a [u8],
 }
 
-// Stays: the lines are bytes; a Display writes text through a formatter and is no plainer here.
+// Stays: names are bytes of the script, so the lines are bytes, and a Display would write text.
 fn kind_word(kind: StatementKind) -> &'static [u8]
     ensures { result.now ≡ kind_text (Some kind) }
 {

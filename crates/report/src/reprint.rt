@@ -69,16 +69,15 @@ impl<'a> Reprint<'a> {
         ensures told { OnOk result (Adds lines.old (line (codes "term=") (fitting (vec_len self.old.page) (text_at self.old id))) lines.new) }
         ensures rest { SameButPage self.old self.new }
     {
-        match print(
+        let printed = print(
             &self.arena,
             id,
             self.entries.as_slice(),
             self.script,
             self.page.as_mut_slice(),
-        ) {
-            Ok(n) => lines.text(b"term=", &self.page.as_slice()[..n]),
-            Err(_) => lines.text(b"term=", b"-"),
-        }
+        );
+        let text: &[u8] = printed.map_or(b"-", |n| &self.page.as_slice()[..n]);
+        lines.text(b"term=", text)
     }
 
     // The lines of a tree that was read; the name of a def or an axiom becomes an entry.
@@ -119,6 +118,7 @@ impl Teller for Reprint<'_> {
 }
 
 /// The lines of all statements, in their order, or the one line of a script that is too long.
+// Stays: the length is tested here and in `told`, so that a script that is too long needs no memory.
 pub fn reprint_text(heap: Global, script: &[u8]) -> Result<Vec<u8>, AllocError>
     ensures long { 1000000 < length script.now → IfOk result (λ v. IsTooLong v.items) }
     ensures all { length script.now ≤ 1000000 → IfOk result (λ v. IsReprint script.now v.items) }

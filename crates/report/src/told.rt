@@ -10,6 +10,7 @@ use script::statement::Statement;
 use std::alloc::{AllocError, Global};
 
 // The refusal of a script that is longer than the programs take.
+// Stays: the one refusal of a whole script, which no fault carries.
 const TOO_LONG: usize = 13;
 
 // The one line of such a script.

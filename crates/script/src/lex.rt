@@ -68,7 +68,7 @@ fn number(w: &[u8]) -> Kind
 }
 
 // A word: every byte that could go on with it.
-// Stays: apart from a number, since one function would take the test and the judge as closures and be longer.
+// Stays: apart from a number; one function for both would take two closures, and clauses that tie them to the definition.
 fn word_piece(rest: &[u8]) -> Piece
     ensures { result ≡ word_piece rest.now }
 {
@@ -119,22 +119,20 @@ fn lexeme(rest: &[u8]) -> Piece
 fn is_comment(fresh: bool, rest: &[u8]) -> bool
     ensures { result ≡ (fresh && begins_with (codes "--") rest.now) }
 {
-    match (fresh, rest) {
-        (true, [_first @ b'-', _second @ b'-', _more @ ..]) => true,
-        _ => false,
-    }
+    matches!(
+        (fresh, rest),
+        (true, [_first @ b'-', _second @ b'-', _more @ ..])
+    )
 }
 
 /// What the bytes begin with; `fresh` where they begin a line.
 pub fn first_piece(fresh: bool, rest: &[u8]) -> Option<Piece>
     ensures { result ≡ next_piece fresh rest.now }
 {
-    let [first, ..] = rest else {
-        return None;
-    };
+    let first = *rest.first()?;
     if is_comment(fresh, rest) {
         Some(comment(rest))
-    } else if is_blank(*first) {
+    } else if is_blank(first) {
         Some(Piece { kind: None, len: 1 })
     } else {
         Some(lexeme(rest))

@@ -23,6 +23,7 @@ pub struct Span {
     pub len: usize,
 }
 
+// Stays: `tokens` and `wrong` are those of the tally that made it; a reader of the struct asks for each alone.
 /// A statement's first byte, the byte past its end, its kind if its first lexeme is one of the
 /// seven words, the name that a def or an axiom would enter, how many lexemes it has, and the
 /// place of the first that is no token.
@@ -145,13 +146,9 @@ impl Tally {
         requires { self.tokens + 1 < 2 ^ 64 }
         ensures { result ≡ one_more self l }
     {
-        let wrong = match (self.wrong, l.kind) {
-            (None, Kind::NoToken) => Some(l.at),
-            (wrong, _) => wrong,
-        };
         Tally {
             tokens: self.tokens + 1,
-            wrong,
+            wrong: self.wrong.or((l.kind == Kind::NoToken).then_some(l.at)),
         }
     }
 }

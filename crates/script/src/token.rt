@@ -49,6 +49,7 @@ pub enum FirstWord {
 }
 
 /// What a lexeme is. `NoToken` is a byte, a word or a number that is none.
+// Stays: an option for it would be an option of an option in each part, of which blanks have none.
 #[derive(Clone, Copy, PartialEq, Eq, Debug)]
 pub enum Kind {
     Name,

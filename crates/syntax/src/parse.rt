@@ -16,6 +16,7 @@ use script::token::{Kind, Lexeme, Mark};
 use term::node::{Binary, Node, Unary};
 
 // An unused binder, which no name means.
+// Stays: a span of no bytes, since each open binder has a span, and an option would be asked at each search.
 const NO_NAME: Span = Span { at: 0, len: 0 };
 
 // What a lexeme quantifies by, if it begins such a form.
@@ -57,6 +58,7 @@ fn sort(l: Lexeme) -> Option<u16>
 
 impl Parser<'_> {
     /// E
+    // Stays: here and below each test of the next word begins a production of its own, with its own steps.
     #[cycle(parse)]
     pub fn expr(&mut self) -> Result<usize, SyntaxFault>
         ensures parsed { AsSign 1 expr (now self.old) (now self.new) result }
@@ -400,7 +402,7 @@ impl Parser<'_> {
     }
 
     // prod under the binder x
-    // Stays: apart from `under`, since a step passed in would be an `FnOnce(&mut Self)`, a bound that the check cannot state.
+    // Stays: apart from `under`; the check cannot state the bound `FnOnce(&mut Self)`, and after a guard that is handed out the parser is unknown.
     #[cycle(parse)]
     fn prods_under(&mut self, x: Span) -> Result<usize, SyntaxFault>
         requires { HasRoomForNames 1 (now self.old) }

@@ -165,6 +165,7 @@ fn read_tokens(
     ensures shut { scope.new.names.items ≡ [] }
 {
     let mut reader = Reader::from_place(script, at);
+    // Stays: the fault stands in its `else`; with `ok_or` it would be made before it is known to be needed.
     let Some(first) = reader.next_lexeme() else {
         return Err(SyntaxFault::Misfit(statement.end))
     };
@@ -185,6 +186,7 @@ fn read_tokens(
     })
 }
 
+// Stays: what is read and what it is read into have owners of their own, which lend them for one call.
 /// Reads the statement that comes next at a place, against the names of the entries. On a refusal
 /// the cells are as they were; however it ends, no binder is open.
 #[tactic(auto, using(grammar::proofs::Reader::one_statement, grammar::proofs::Misfit::misfits))]

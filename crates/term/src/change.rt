@@ -57,7 +57,7 @@ impl Change for Lift {
 }
 
 // Lowers each local that points out of the tree by so much.
-// Stays: apart from `Lift`, since one struct for both would ask at each local which way it goes.
+// Stays: apart from `Lift`; one struct over a closure would need a clause on it, where neither has one now.
 #[derive(Clone, Copy)]
 pub struct Lower(pub u32);
 
@@ -110,6 +110,7 @@ impl Change for Put<'_> {
 }
 
 // A question about a local of a tree.
+// Stays: a trait and not a closure, since its ghost member names the question in the contract of the walk.
 pub trait Test: Copy {
     // Whether it holds of a local, with so many binders over it, by its number.
     ghost asked: { Self → ℕ → ℕ → Bool };

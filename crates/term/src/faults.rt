@@ -26,6 +26,7 @@ pub enum Unmade {
     Memory,
 }
 
+// Stays: by hand, as the impls of `From` in the crates above, since `#[from]` of the kit writes no contract.
 impl From<AllocError> for Unmade {
     ghost from_gives = { λ _ r. r ≡ unmade.Memory };
 

@@ -58,7 +58,7 @@ impl<'a> Reader<'a> {
     fn fresh(&self) -> bool
         ensures { result ≡ line_start (script self.now) self.now.at }
     {
-        self.at == 0 || self.script[self.at - 1] == b'\n'
+        self.script[..self.at].last().is_none_or(|b| *b == b'\n')
     }
 
     /// The part that comes next, not passed; none at the end.

@@ -11,6 +11,7 @@ use crate::node::{Cell, Node};
 use std::alloc::Global;
 
 // The root of the tree where no term stands.
+// Stays: each index has a tree then, and no function of the arena fails for one that is too high.
 const BLANK: Node = Node::Sort(0, 0);
 
 impl Arena {

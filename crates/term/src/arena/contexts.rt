@@ -19,6 +19,7 @@ impl Arena {
     }
 
     // The `k`-th binder of a context, from the nearest.
+    // Stays: a context is a chain of cells, so the k-th binder is found by going outwards k times.
     pub fn binder(&self, context: Option<usize>, k: u64) -> Option<Binder>
         ensures { Found self.now context k result }
     {

@@ -18,6 +18,7 @@ impl Arena {
     }
 
     // What is left of `purse` once each cell of the tree has cost 1.
+    // Stays: the walks over a tree have one `match`, but answers of five types; one walk for all would be a fold with a closure for each form.
     #[tactic(auto, using(crate::proofs::Trees::cells_pos))]
     fn pay(&self, id: usize, purse: usize) -> Option<usize>
         ensures { result ≡ rest purse (cells (term self.now id)) }
@@ -39,6 +40,7 @@ impl Arena {
     }
 
     // Whether two trees are equal, places aside.
+    // Stays: a derived `==` would compare the indices of the parts, and not the parts.
     pub fn equal(&self, a: usize, b: usize) -> bool
         ensures { MatchBool result (bare (term self.now a) ≡ bare (term self.now b)) (bare (term self.now a) ≢ bare (term self.now b)) }
     {

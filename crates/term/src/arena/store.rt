@@ -12,6 +12,7 @@ use crate::faults::Spent;
 use crate::node::{Node, Stored};
 
 impl Arena {
+    // Stays: `kind` and `value` are what is to be stored; as a `Stored` they would seem to stand already.
     // Stores a type, and a value if there is one, right above `mark`, in place of all that stands
     // there. It costs the cells of both. A closed tree has no local that is too high down there.
     pub fn store(&mut self, mark: usize, kind: usize, value: Option<usize>) -> Result<Stored, Spent>
