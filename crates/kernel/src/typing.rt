@@ -78,6 +78,7 @@ impl<'a, S: SortSystem> Typing<'a, S> {
     }
 
     // The parts of the type that a term has, which must be of the form named.
+    // Stays: apart from `sort`, which asks for another form, by a premise of its own.
     #[cycle(typing)]
     fn split(&self, arena: &mut Arena, form: Binary, id: usize) -> Result<(usize, usize), Fault>
         requires here { Within self.now.site arena.old }

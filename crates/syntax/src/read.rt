@@ -83,6 +83,7 @@ impl ReadFault {
 
 impl Parser<'_> {
     // No word may be left.
+    // Stays: apart from `Ahead::expect`, which passes a word, where this passes none.
     fn finish(&self) -> Result<(), SyntaxFault>
         ensures { Finishes self.now.words result }
     {
