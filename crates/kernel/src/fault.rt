@@ -9,7 +9,7 @@ use rules::refusal::{Layer, Reason, Refusal};
 use term::faults::Spent;
 
 // The budget does not suffice, or a rule refuses.
-// Stays: apart from `Halt`, since one type for both would lose what a normal form can be refused for.
+// Stays: apart from `Halt`, whose type shows that a normal form is refused for one reason only.
 #[derive(Clone, Copy, Debug, PartialEq, Eq)]
 pub enum Fault {
     Spent,

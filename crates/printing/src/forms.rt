@@ -127,7 +127,7 @@ fn arm_opens(arm: Arm) -> &'static [u8]
     }
 }
 
-// Stays: each lead is a row of one table; a constant would have no clause that says which row it is.
+// Stays: apart from `arm_lead`, of which each field differs or depends on the arm; a constant would have no clause.
 pub(crate) fn match_lead() -> Lead<'static>
     ensures { piece_of result ≡ match_piece }
 {

@@ -118,7 +118,7 @@ impl Teller for Reprint<'_> {
 }
 
 /// The lines of all statements, in their order, or the one line of a script that is too long.
-// Stays: the length is tested here and in `told`, so that a script that is too long needs no memory.
+// Stays: tested here and in `told`, so that no arena and no page is made for a script that is too long.
 pub fn reprint_text(heap: Global, script: &[u8]) -> Result<Vec<u8>, AllocError>
     ensures long { 1000000 < length script.now → IfOk result (λ v. IsTooLong v.items) }
     ensures all { length script.now ≤ 1000000 → IfOk result (λ v. IsReprint script.now v.items) }

@@ -67,6 +67,7 @@ const SINGLE_SYMBOLS: [Spelling; 8] = [
 ];
 
 // What a word is, if the table has it. Inlined, so that the table is known in the loop.
+// Stays: a `for`, here and at symbols; tried with `find` and `map`, and the goal on what was found stayed open.
 #[inline(always)]
 fn spelt(table: &[Spelling], w: &[u8]) -> Option<Kind>
     ensures { result ≡ spelt (rows table.now) w.now }

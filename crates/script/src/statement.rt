@@ -23,7 +23,7 @@ pub struct Span {
     pub len: usize,
 }
 
-// Stays: `tokens` and `wrong` are those of the tally that made it; a reader of the struct asks for each alone.
+// Stays: `tokens` and `wrong`, and no tally: each is asked for alone, and `st.tally.tokens` would be no plainer.
 /// A statement's first byte, the byte past its end, its kind if its first lexeme is one of the
 /// seven words, the name that a def or an axiom would enter, how many lexemes it has, and the
 /// place of the first that is no token.

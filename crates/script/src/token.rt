@@ -49,7 +49,7 @@ pub enum FirstWord {
 }
 
 /// What a lexeme is. `NoToken` is a byte, a word or a number that is none.
-// Stays: an option for it would be an option of an option in each part, of which blanks have none.
+// Stays: `NoToken` is a case; a part's kind is an option already, none for blanks, and would be an option of an option.
 #[derive(Clone, Copy, PartialEq, Eq, Debug)]
 pub enum Kind {
     Name,
@@ -67,6 +67,7 @@ pub struct Piece {
 }
 
 /// Something at its place in the script, with its length.
+// Stays: no span inside, since the definitions of the layers above speak of `at` and `len` at each lexeme.
 #[derive(Clone, Copy, PartialEq, Eq, Debug)]
 pub struct Placed<K> {
     pub kind: K,

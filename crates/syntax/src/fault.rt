@@ -2,7 +2,7 @@
 ghost use Rattle.std.specs.Prelude.{◌≡◌};
 ghost use Rattle.syntax.specs.Faults.{fault_number, fault_place};
 
-// Stays: no text; a refusal is told by its number and its place.
+// Stays: no text, as at `ScriptFault` and `ReadFault`: a refusal is told by its number and place.
 /// A token that does not fit, a name that nothing has, a name that is entered already; each with
 /// its place.
 #[derive(Clone, Copy, PartialEq, Eq, Debug)]

@@ -402,7 +402,7 @@ impl Parser<'_> {
     }
 
     // prod under the binder x
-    // Stays: apart from `under`; the check cannot state the bound `FnOnce(&mut Self)`, and after a guard that is handed out the parser is unknown.
+    // Stays: apart from `under`; one function would take the step as `FnOnce(&mut Self)`, a bound that the check refuses here.
     #[cycle(parse)]
     fn prods_under(&mut self, x: Span) -> Result<usize, SyntaxFault>
         requires { HasRoomForNames 1 (now self.old) }

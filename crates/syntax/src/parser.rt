@@ -47,7 +47,7 @@ impl Parser<'_> {
     ghost use Rattle.syntax.specs.Look.{left};
     ghost use Rattle.syntax.specs.Parses.{now, OpensBinder, Adds, HoldsSame, HasRoomForCell, HasRoomForNames, Means};
 
-    // Stays: `here`, `begins` and `misfit` beside those of the words, since a method with `&mut self` cannot yet lend a field by `&` where the struct has an invariant.
+    // Stays: `here`, `begins`, `misfit` again: where a struct has an invariant, a method with `&mut self` cannot lend a field by `&`.
 
     // The place of the next word, or the statement's end.
     pub(crate) fn here(&self) -> usize

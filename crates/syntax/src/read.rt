@@ -35,6 +35,7 @@ pub enum ReadFault {
     Syntax(SyntaxFault),
 }
 
+// Stays: this and the next by hand, since what `#[from]` of the kit writes has no contract.
 impl From<ScriptFault> for ReadFault {
     ghost use Rattle.syntax.specs.declared.read.ReadFault.TheVariants.{Tokens};
 
@@ -166,7 +167,7 @@ fn read_tokens(
     ensures shut { scope.new.names.items ≡ [] }
 {
     let mut reader = Reader::from_place(script, at);
-    // Stays: the fault stands in its `else`; with `ok_or` it would be made before it is known to be needed.
+    // Stays: tried with `ok_or`; the goals on the two refusals, which speak of the reader before it, stayed open.
     let Some(first) = reader.next_lexeme() else {
         return Err(SyntaxFault::Misfit(statement.end))
     };

@@ -26,7 +26,7 @@ pub enum Unmade {
     Memory,
 }
 
-// Stays: by hand, as the impls of `From` in the crates above, since `#[from]` of the kit writes no contract.
+// Stays: by hand; `#[from]` takes a variant with a field, and what the kit writes for it has no contract.
 impl From<AllocError> for Unmade {
     ghost from_gives = { λ _ r. r ≡ unmade.Memory };
 

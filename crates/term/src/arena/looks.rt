@@ -18,7 +18,7 @@ impl Arena {
     }
 
     // What is left of `purse` once each cell of the tree has cost 1.
-    // Stays: the walks over a tree have one `match`, but answers of five types; one walk for all would be a fold with a closure for each form.
+    // Stays: each walk has its own match; their answers are of three types, and one fold would take a closure for each form.
     #[tactic(auto, using(crate::proofs::Trees::cells_pos))]
     fn pay(&self, id: usize, purse: usize) -> Option<usize>
         ensures { result ≡ rest purse (cells (term self.now id)) }
