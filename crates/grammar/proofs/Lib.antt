@@ -13,6 +13,7 @@ pub mod Sound
 pub mod RoundTrip
 pub mod Good
 pub mod Fresh
+pub mod Lookups
 pub mod Completing
 pub mod Framing
 pub mod Misfit

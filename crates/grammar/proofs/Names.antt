@@ -1,5 +1,5 @@
 -- A name is found where it was bound or entered.
-use Rattle.std.proofs.Common.{◌≡◌, ℕ, zero, suc, ◌+◌, ◌-◌, ◌^◌, ◌<◌, Bool, true, false, List, [], ◌∷◌, length, get_or, Some, None, Option, sym, refl, ap, ◌∙◌, inl, inr, arith, rules}
+use Rattle.std.proofs.Common.{◌≡◌, ℕ, zero, suc, ◌+◌, ◌-◌, ◌^◌, ◌<◌, Bool, true, false, cond, List, [], ◌∷◌, ◌++◌, length, get_or, Some, None, Option, sym, refl, ap, ◌∙◌, subst₂, inl, inr, arith, length-append, rules}
 use Rattle.std.specs.Char.{is_ascii_alphabetic}
 use Rattle.std.specs.Str.{bytes_eq}
 use Rattle.std.proofs.lemmas.Bool.{cases_eq, cond-true, cond-false}
@@ -42,3 +42,37 @@ last_at p i o (x ∷ xs) (suc j) l e h = last_at p (i + 1) _ xs j (omega arith) 
 
 pub entry_found : (es : List Name) (j : ℕ) → ((i j : ℕ) → i < length es → j < length es → get_or es i [] ≡ get_or es j [] → i ≡ j) → j < length es → find_entry (get_or es j []) es ≡ Some j
 entry_found es j h l = grind (arith, last_at, same_true, same_false)
+
+-- one binder more, by an index from the first or by how many stand between
+abbrev pub SameBinder : ℕ → Option ℕ → Option ℕ → Type 0
+SameBinder n None r = r ≡ None
+SameBinder n (Some i) r = (i < n) × (r ≡ Some (n - suc i))
+
+-- binders in the order in which they were opened, and the nearest first
+pub record Scope (names sc : List Name) : Type 0 where
+  pub tells : (x : Name) → SameBinder (length names) (find_entry x names) (find x sc)
+
+pub scope_none : Scope [] []
+scope_none = record { tells = λ x. refl }
+
+last_push : (p : Name → Bool) (i : ℕ) (o : Option ℕ) (xs : List Name) (x : Name) → last_from p i o (xs ++ x ∷ []) ≡ cond (p x) (Some (i + length xs)) (last_from p i o xs)
+last_push p i o [] x = ap (λ k. cond (p x) (Some k) o) (omega arith)
+last_push p i o (y ∷ xs) x =
+    last_push p (i + 1) (cond (p y) (Some i) o) xs x
+    ∙ ap (λ k. cond (p x) (Some k) (last_from p (i + 1) (cond (p y) (Some i) o) xs)) (omega arith)
+
+later_same : (n : ℕ) (o r : Option ℕ) → SameBinder n o r → SameBinder (suc n) o (later r)
+later_same n None r h = ap later h
+later_same n (Some i) r h = (omega (arith, h.0), ap later h.1 ∙ ap Some (omega (arith, h.0)))
+
+pushed_same : (b : Bool) (n : ℕ) (o r : Option ℕ) → SameBinder n o r → SameBinder (suc n) (cond b (Some (0 + n)) o) (cond b (Some 0) (later r))
+pushed_same true n o r h = (omega arith, ap Some (omega arith))
+pushed_same false n o r h = later_same n o r h
+
+pub scope_push : (names sc : List Name) (y : Name) → Scope names sc → Scope (names ++ y ∷ []) (y ∷ sc)
+scope_push names sc y h = record {
+  tells = λ x.
+      let e : suc (length names) ≡ length (names ++ y ∷ []) = omega (arith, length-append names (y ∷ [])) in
+      subst₂ (λ n o. SameBinder n o (find x (y ∷ sc))) e (sym (last_push (λ z. bytes_eq z x) 0 None names y))
+      (pushed_same (bytes_eq y x) (length names) (find_entry x names) (find x sc) (h.tells x));
+}

@@ -1,5 +1,5 @@
 -- A list of words has one reading, and the function finds it.
-use Rattle.std.proofs.Common.{◌≡◌, ℕ, zero, suc, ◌+◌, ◌*◌, ◌<◌, ◌≤◌, Bool, true, false, cond, List, [], ◌∷◌, length, Some, None, Option, refl, subst, subst₂, arith}
+use Rattle.std.proofs.Common.{◌≡◌, ℕ, zero, suc, ◌+◌, ◌*◌, ◌<◌, ◌≤◌, Bool, true, false, cond, List, [], ◌∷◌, length, Some, None, Option, refl, ap, ◌∙◌, subst, subst₂, arith}
 use Rattle.script.specs.declared.token.Mark.{Mark}
 use Rattle.script.specs.declared.statement.StatementKind.{StatementKind}
 use Rattle.term.specs.declared.node.Binary.TheVariants.{App}
@@ -208,6 +208,10 @@ module _ (entries : List Name) (end : ℕ) where
   pub reading_some : (n : ℕ) (g : Sign) (sc : List Name) (ws : List Word) → 8 * length ws + weight g < n → Answered (reading entries end n g sc ws)
   reading_some zero g sc ws h = absurd (omega arith)
   reading_some (suc n) g sc ws h = follow_some n (reading_some n) (production entries end g sc ws) ws (safe g sc ws n h)
+
+  -- with enough nesting the function tells the reading
+  pub reading_reads : (n : ℕ) (g : Sign) (sc : List Name) (ws : List Word) (r : Reading) → 8 * length ws + weight g < n → Reads entries end g sc ws r → reading entries end n g sc ws ≡ Some r
+  reading_reads n g sc ws r h d = let s = reading_some n g sc ws h in s.1 ∙ ap Some (unique entries end (reading_told entries end n g sc ws s.0 s.1) d)
 
 pub one_reading : OneReading
 one_reading entries end g sc ws =

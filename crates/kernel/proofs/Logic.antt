@@ -294,6 +294,10 @@ nested_twice {B = B} q n e =
 pub outside : {s : Site} {B B' : Bound} {x y : Arena} → B ≡ B' → Kept x y → Within s x → ◌≡◌ {A = List Bound} (B ∷ context_at s y) (B' ∷ context_at s x)
 outside {s = s} e k h = ap₂ (λ b Γ. b ∷ Γ) e (k.chains s.context h.ctx)
 
+-- the same of entries and premises that are equal
+pub rest : {S : System} {R R' : List Entry} {w : Spot} {c c' : Premises} {x z : Arena} {r : Result ℕ Fault} → R' ≡ R → c' ≡ c → Ran S R' w c' x z r → Ran S R w c x z r
+rest a b d = rw (← a, ← b) d
+
 pub bound_of : {P P' : Term} (v : Option Term) → P ≡ P' → ◌≡◌ {A = Bound} (record { type = P; value = v }) (record { type = P'; value = v })
 bound_of v e = ap (λ P. record { type = P; value = v }) e
 

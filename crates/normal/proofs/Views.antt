@@ -23,13 +23,13 @@ rows_kept (e ∷ es) k h = ap₂ (λ x xs. x ∷ xs) (as_row (k.trees e.kind (om
 pub binding_kept : {a b : Arena} (o : Option ℕ) → Kept a b → over o ≤ cells_in a → binding b o ≡ binding a o
 binding_kept o k h = ap bindings (k.chains o h)
 
-listed_at : (es : List Stored) (j : ℕ) (d : Stored) → j < length es → Listed es j (Some (get_or es j d))
+pub listed_at : (es : List Stored) (j : ℕ) (d : Stored) → j < length es → Listed es j (Some (get_or es j d))
 unfolding top
 listed_at [] j d h = absurd (omega arith)
 listed_at (e ∷ es) zero d h = record { is = λ a. refl; low = omega arith }
 listed_at (e ∷ es) (suc j) d h = let n = listed_at es j d (omega arith) in record { is = n.is; low = omega (arith, n.low) }
 
-unlisted : (es : List Stored) (j : ℕ) → length es ≤ j → Listed es j None
+pub unlisted : (es : List Stored) (j : ℕ) → length es ≤ j → Listed es j None
 unlisted [] j h = record { is = λ a. refl; low = omega arith }
 unlisted (e ∷ es) zero h = absurd (omega arith)
 unlisted (e ∷ es) (suc j) h = let n = unlisted es j (omega arith) in record { is = n.is; low = omega arith }

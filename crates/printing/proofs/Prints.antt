@@ -18,7 +18,7 @@ use Rattle.printing.specs.Page.{written, Writes}
 use Rattle.printing.specs.Output.{Printed, ReadsBack}
 
 -- what was printed reads back
-reads_back : (entries : List Name) (t : Term) (was is : List ℕ) (r : Result ℕ PrintFault) → Printed entries t was is r → ReadsBack entries t is r
+pub reads_back : (entries : List Name) (t : Term) (was is : List ℕ) (r : Result ℕ PrintFault) → Printed entries t was is r → ReadsBack entries t is r
 reads_back entries t was is (Ok n) p = λ s at end rest e good ok q.
     let same : take n is ≡ text entries 0 t = ap (take n) p.1 ∙ take_at (text entries 0 t) (drop n was) n (sym p.0) in
     subst (λ m. ReadsAs entries end 0 (words s (lexemes_from s at)) (words s (lexemes_from s (at + m))) t) (sym p.0)

@@ -1,5 +1,6 @@
 //! The search by name, for any record that tells where its name stands in the script.
 ghost use Rattle.std.specs.Prelude.{◌≡◌};
+ghost use Rattle.std.specs.Str.{bytes_eq};
 ghost use Rattle.script.specs.declared.statement.Span.{Span};
 ghost use Rattle.script.specs.Names.{bytes_at, named, nearest};
 
@@ -32,11 +33,18 @@ impl Span {
     }
 }
 
-// Whether a record has this name, byte for byte.
+/// Whether two names are the same, byte for byte.
+pub fn same_name(a: &[u8], b: &[u8]) -> bool
+    ensures { result ≡ bytes_eq a.now b.now }
+{
+    a == b
+}
+
+// Whether a record has this name.
 fn has_name<R: Named>(script: &[u8], x: &R, name: &[u8]) -> bool
     ensures { result ≡ named script.now name.now (R.span x.now).at (R.span x.now).len }
 {
-    x.name().bytes(script) == name
+    same_name(x.name().bytes(script), name)
 }
 
 /// The nearest of the records with this name, which is the last of them.

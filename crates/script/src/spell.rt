@@ -1,6 +1,6 @@
 //! How reserved words and symbols are spelt, by the tables of the specification.
 ghost use Rattle.std.specs.Prelude.{◌≡◌};
-ghost use Rattle.script.specs.Tokens.{spelt, reserved, symbol, symbol_piece};
+ghost use Rattle.script.specs.Tokens.{spelt, reserved, begins_with, symbol, symbol_piece};
 ghost use Rattle.script.specs.Spellings.{rows};
 
 use crate::token::{FirstWord, Kind, Mark, Piece};
@@ -90,13 +90,22 @@ pub fn reserved_word(w: &[u8]) -> Option<Kind>
         .or_else(|| spelt(&FIRST_WORDS, w))
 }
 
+// Whether the bytes begin with these. By `==`, which has no loop of its own to be inlined, so that
+// the table's rows are compared one after another as constants.
+#[inline(always)]
+fn starts(rest: &[u8], bytes: &[u8]) -> bool
+    ensures { result ≡ begins_with bytes.now rest.now }
+{
+    bytes.len() <= rest.len() && bytes == &rest[..bytes.len()]
+}
+
 // The first symbol of the table that the bytes begin with. Inlined, as `spelt` is.
 #[inline(always)]
 fn symbol(table: &[Spelling], rest: &[u8]) -> Option<Piece>
     ensures { result ≡ symbol (rows table.now) rest.now }
 {
     for (bytes, kind) in table {
-        if rest.starts_with(bytes) {
+        if starts(rest, bytes) {
             return Some(Piece {
                 kind: Some(*kind),
                 len: bytes.len(),

@@ -1,4 +1,6 @@
 //! What a script is made of: tokens, and what parts them.
+ghost use Rattle.std.specs.Prelude.{◌≡◌};
+ghost use Rattle.script.specs.Marks.{code};
 
 /// A reserved word or a symbol of the language of terms, in this order: what begins an atom, what
 /// begins a head, what begins a longer form, what joins, what closes or parts.
@@ -34,6 +36,15 @@ pub enum Mark {
     InWord,
     WithWord,
     EndWord,
+}
+
+impl Mark {
+    /// Its number in that order.
+    pub fn code(self) -> u8
+        ensures { result ≡ code self }
+    {
+        self as u8
+    }
 }
 
 /// One of the seven words that begin statements.

@@ -45,6 +45,10 @@ summary_of s from l ls st e n =
     let same : summary s (record { first = l; rest = until ls }) (start_of s (runs (from_next ls))) ≡ st = cc in
     (sym (ap (λ (x : Statement). x.tokens) same), sym (ap (λ (x : Statement). x.kind) same))
 
+pub no_lexeme : (s : List ℕ) (from : ℕ) → lexemes_from s from ≡ [] → statements_from s from ≡ []
+unfolding statements_from
+no_lexeme s from e = ap (λ ls. summaries s (runs ls)) e
+
 module _ (s : List ℕ) (from : ℕ) (l : Lexeme) (ls : List Lexeme) (e : lexemes_from s from ≡ l ∷ ls) where
   words_are : statement_words s from ≡ word s l ∷ words s (until ls)
   words_are = ap (λ ms. words s (own ms)) e

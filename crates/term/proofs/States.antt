@@ -24,7 +24,7 @@ held a i h =
     }
 
 -- past the last cell
-past : (a : Arena) (i : ℕ) → cells_in a ≤ i → Holds a i blank
+pub past : (a : Arena) (i : ℕ) → cells_in a ≤ i → Holds a i blank
 unfolding tree tree_to chain chain_to
 past a i h =
     let xs = vec_items a.pool in
