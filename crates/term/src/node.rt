@@ -1,7 +1,7 @@
 //! One cell of the arena, and the forms of terms by how many parts they have.
 ghost use Rattle.std.specs.Prelude.{◌≡◌, ℕ};
 ghost use Rattle.term.specs.Cells.{form};
-ghost use Rattle.term.specs.Forms.{binds, binds_last};
+ghost use Rattle.term.specs.Forms.{binds, binds_last, code, code_two};
 ghost use Rattle.term.specs.Term.{Term, place};
 
 // The forms with one part.
@@ -89,6 +89,19 @@ impl Unary {
             Unary::Fst | Unary::Snd | Unary::Inl | Unary::Inr => 0,
         }
     }
+
+    // Its number among the forms with one part.
+    pub fn code(self) -> u8
+        ensures { result ≡ code self }
+    {
+        match self {
+            Unary::Fun => 0,
+            Unary::Fst => 1,
+            Unary::Snd => 2,
+            Unary::Inl => 3,
+            Unary::Inr => 4,
+        }
+    }
 }
 
 impl Binary {
@@ -100,6 +113,25 @@ impl Binary {
             Binary::Pi | Binary::Sigma | Binary::Exists | Binary::Typed | Binary::Let => 1,
             Binary::App | Binary::Pair | Binary::Pack | Binary::Sum | Binary::Ascribe => 0,
             Binary::Unpack => 2,
+        }
+    }
+
+    // Its number among the forms with two parts.
+    pub fn code(self) -> u8
+        ensures { result ≡ code_two self }
+    {
+        match self {
+            Binary::Pi => 0,
+            Binary::Sigma => 1,
+            Binary::Exists => 2,
+            Binary::Typed => 3,
+            Binary::App => 4,
+            Binary::Pair => 5,
+            Binary::Pack => 6,
+            Binary::Unpack => 7,
+            Binary::Sum => 8,
+            Binary::Ascribe => 9,
+            Binary::Let => 10,
         }
     }
 }
