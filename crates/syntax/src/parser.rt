@@ -4,7 +4,7 @@ ghost use Rattle.syntax.specs.Rooms.{Room};
 
 use crate::ahead::Ahead;
 use crate::fault::SyntaxFault;
-use crate::scope::{Scope, binders};
+use crate::scope::{self, Scope, binders};
 use script::statement::Span;
 use term::arena::Arena;
 use term::node::{Binary, Node};
@@ -34,7 +34,10 @@ impl Drop for Open<'_, '_> {
         ensures same { HoldsSame self.entry.parser.now self.exit.0.now }
     {
         let Open { parser, was } = self;
-        parser.scope.close(was);
+        let _open = scope::Open {
+            scope: parser.scope,
+            was,
+        };
     }
 }
 
