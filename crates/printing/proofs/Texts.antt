@@ -1,6 +1,7 @@
 -- Texts by the parts that are put one after another.
-use Rattle.std.proofs.Common.{◌≡◌, ℕ, zero, suc, ◌+◌, ◌≤◌, true, List, ◌++◌, length, take, drop, codes, decimal, is_err, Ok, Err, Result, sym, ap, ◌∙◌, subst, arith, rules}
+use Rattle.std.proofs.Common.{◌≡◌, ℕ, zero, suc, ◌+◌, ◌%◌, ◌<◌, ◌≤◌, true, List, [], ◌∷◌, ◌++◌, length, take, drop, codes, decimal, is_err, Ok, Err, Result, sym, ap, ◌∙◌, subst, arith, rules}
 use borrow.Rule.Slice.PartMut.{put_mid}
+use Rattle.std.proofs.lemmas.Fmt.{decimal_digit}
 use Rattle.std.proofs.lemmas.List.{places, drop-drop}
 use Rattle.grammar.specs.Text.{binder_name, sort_text}
 use Rattle.printing.specs.Layout.{names_text}
@@ -32,6 +33,9 @@ module _ {S : Type 0} {gives : S → List ℕ → Result (Unit {0}) PrintFault �
   -- together they are the text
   pub spelt : {s t : S} {whole parts : List ℕ} {r : Result (Unit {0}) PrintFault} → whole ≡ parts → gives s parts r t → gives s whole r t
   spelt {s} {t} {r = r} e x = subst (λ w. gives s w r t) (sym e) x
+
+pub digit : (n : ℕ) → n < 10 → decimal n ≡ (48 + n % 10) ∷ []
+digit n h = let e : n ≡ n % 10 = omega arith in decimal_digit n h ∙ ap (λ m. (48 + m) ∷ []) e
 
 pub sort_from_two : (s n : ℕ) → 2 ≤ s → n ≡ s → sort_text s ≡ codes "Sort " ++ decimal n
 sort_from_two zero n h e = absurd (omega arith)

@@ -7,7 +7,6 @@ ghost use Rattle.printing.specs.Layout.{names_text, lead_text, piece_of};
 
 use crate::fault::PrintFault;
 use crate::lead::Lead;
-use itoa::Buffer;
 
 pub(crate) trait Sink {
     // What putting a text answers, and what it makes of the sink.
@@ -26,8 +25,12 @@ pub(crate) trait Sink {
         Self: Sized,
         ensures { put_gives self.old (decimal n) result self.new }
     {
-        let mut digits = Buffer::new();
-        self.put(digits.format(n).as_bytes())
+        let last = [b'0' + (n % 10) as u8];
+        if n < 10 {
+            return self.put(&last);
+        }
+        self.number(n / 10)?;
+        self.put(&last)
     }
 
     // The name of the binder with `d` binders outside it.

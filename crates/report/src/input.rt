@@ -13,7 +13,9 @@ pub fn read_script<R: Read + Drop>(heap: Global, input: R) -> io::Result<Vec<u8>
     ensures { IfOk result (λ v. IfSome (R.remaining input) (λ bytes. v.items ≡ take 1000001 bytes)) }
 {
     let mut script = Vec::new(heap);
-    input.take(MOST_BYTES as u64 + 1).read_to_end(&mut script)?;
+    // Not `read_to_end`, which asks for no more than its vector has room for: where each read gives a
+    // message and drops what it has no room for, it would lose bytes.
+    io::copy(&mut input.take(MOST_BYTES as u64 + 1), &mut script)?;
     Ok(script)
 }
 

@@ -1,9 +1,8 @@
 //! Lines of a key and a value.
-ghost use Rattle.std.specs.Prelude.{decimal, OnOk};
+ghost use Rattle.std.specs.Prelude.{codes, decimal, OnOk};
 ghost use Rattle.report.specs.Lines.{Adds, line, place_line, refusal_lines};
 
 use crate::refusal::Refusal;
-use itoa::Buffer;
 use std::alloc::AllocError;
 
 /// The longest script that the programs take.
@@ -22,16 +21,35 @@ impl Lines {
     {
         self.bytes.extend_from_slice(key)?;
         self.bytes.extend_from_slice(value)?;
-        self.bytes.push(b'\n')?;
-        Ok(())
+        self.end()
     }
 
     /// A key, a number in decimal digits and the line's end.
     pub fn number(&mut self, key: &[u8], value: usize) -> Result<(), AllocError>
         ensures { OnOk result (Adds self.old (line key.now (decimal value)) self.new) }
     {
-        let mut digits = Buffer::new();
-        self.text(key, digits.format(value).as_bytes())
+        self.bytes.extend_from_slice(key)?;
+        self.digits(value)?;
+        self.end()
+    }
+
+    // The number's digits.
+    fn digits(&mut self, value: usize) -> Result<(), AllocError>
+        ensures { OnOk result (Adds self.old (decimal value) self.new) }
+    {
+        if value >= 10 {
+            self.digits(value / 10)?;
+        }
+        self.bytes.push(b'0' + (value % 10) as u8)?;
+        Ok(())
+    }
+
+    // The line's end.
+    fn end(&mut self) -> Result<(), AllocError>
+        ensures { OnOk result (Adds self.old (codes "\n") self.new) }
+    {
+        self.bytes.push(b'\n')?;
+        Ok(())
     }
 
     // A key and a place, or a dash where there is none.
