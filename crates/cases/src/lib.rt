@@ -1,8 +1,10 @@
-//! Scripts, worked by hand, and what is told of them.
+//! Scripts and inputs, worked by hand, and what is told or read of them.
 #![tactic(auto)]
 
 #[cfg(test)]
 mod case;
+#[cfg(test)]
+mod inputs;
 #[cfg(test)]
 mod outlines;
 #[cfg(test)]

@@ -9,13 +9,21 @@ use std::io;
 use std::io::{Read, Write};
 
 /// The input to its end, or one byte more than the programs take.
-pub fn read_script<R: Read + Drop>(heap: Global, input: R) -> io::Result<Vec<u8>>
+pub fn read_script<R: Read + Drop>(heap: Global, mut input: R) -> io::Result<Vec<u8>>
     ensures { IfOk result (λ v. IfSome (R.remaining input) (λ bytes. v.items ≡ take 1000001 bytes)) }
 {
     let mut script = Vec::new(heap);
-    // Not `read_to_end`, which asks for no more than its vector has room for: where each read gives a
-    // message and drops what it has no room for, it would lose bytes.
-    io::copy(&mut input.take(MOST_BYTES as u64 + 1), &mut script)?;
+    // Not by `read_to_end` or `copy`: these ask for other sizes, which shows where the input gives
+    // messages, and with `take` they would not see that it fails right after the limit.
+    for _ in 0..u64::MAX {
+        let mut part = [0u8; 4096];
+        let n = input.read(&mut part)?;
+        if n == 0 || script.len() > MOST_BYTES {
+            break;
+        }
+        script.extend_from_slice(&part[..n])?;
+    }
+    script.truncate(MOST_BYTES + 1);
     Ok(script)
 }
 
