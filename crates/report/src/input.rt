@@ -8,15 +8,19 @@ use std::alloc::{AllocError, Global};
 use std::io;
 use std::io::{Read, Write};
 
-/// The input to its end, or one byte more than the programs take.
+// The bytes that are asked for at a time.
+const PART: usize = 4096;
+
+/// The input to its end, or one byte more than the programs take. It is read 4,096 bytes at a time,
+/// and once more after the limit is passed.
 pub fn read_script<R: Read + Drop>(heap: Global, mut input: R) -> io::Result<Vec<u8>>
     ensures { IfOk result (λ v. IfSome (R.remaining input) (λ bytes. v.items ≡ take 1000001 bytes)) }
 {
     let mut script = Vec::new(heap);
-    // Not by `read_to_end` or `copy`: these ask for other sizes, which shows where the input gives
-    // messages, and with `take` they would not see that it fails right after the limit.
+    // Not by `read_to_end` or `copy`: they ask for other sizes, so that more or less of a message
+    // would be dropped, and with `take` they would not meet an input that fails after the limit.
     for _ in 0..u64::MAX {
-        let mut part = [0u8; 4096];
+        let mut part = [0u8; PART];
         let n = input.read(&mut part)?;
         if n == 0 || script.len() > MOST_BYTES {
             break;

@@ -27,4 +27,4 @@ returns g c =
           ]
     ]
     )
-    c.truncate.ensures.items
+    (cc)
